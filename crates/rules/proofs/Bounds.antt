@@ -1,0 +1,55 @@
+-- How large a group's numbers get, so that the program's sums and products fit 32 bits.
+-- Assumes nothing.
+use mathlib.Core.Path.{_≡_}
+use Prim.Native.Nat.{ℕ, _+_, _*_, _/_, _%_, _≤_, _<_}
+use native.Mathlib.Omega.{arith}
+use native.Mathlib.Nat.{mul-le-mul, mul-le-mul-left, mul-comm, div-le-of-le-mul}
+use mathlib.Core.Bool.{true, _&&_, and-eq-true-iff}
+use borrow.Author.Tests.{leb-true, ltb-true}
+use lib.Dec.{leb, ltb, eqb}
+use Rattle.rules.specs.Basics.{within}
+use Rattle.rules.specs.Records.{sizeOk}
+use Rattle.rules.specs.Groups.{rubyTotal, shift, rubyOk}
+use Rattle.rules.specs.Values.{ShiftBounds}
+
+pub rubyTotal-small : (n s : ℕ) → n ≤ 64 → s ≤ 4000 → rubyTotal n s ≤ 128000
+rubyTotal-small n s h k =
+    let half : s / 2 ≤ 2000 = omega arith in
+    mul-le-mul h half
+
+-- the product of which a shift is the quotient
+pub shift-product : {d n k : ℕ} → ShiftBounds d n k → d * (2 * k + 1) ≤ 128000 * 127
+shift-product {k = k} b =
+    let odd : 2 * k + 1 ≤ 127 = omega arith in
+    mul-le-mul (b .difference) odd
+
+-- no item is shifted by more than the difference
+pub shift-small : (d n k : ℕ) → k < n → shift d n k ≤ d
+unfolding shift
+shift-small d n k h =
+    let odd : 2 * k + 1 ≤ 2 * n = omega arith in
+    div-le-of-le-mul (2 * n) (rw (mul-comm (2 * n) d) (mul-le-mul-left d odd))
+
+-- what holds where ruby place does not refuse
+pub record RubyBounds (base n s k : ℕ) : Type 0 where
+  pub total : base ≤ 64000
+  pub characters : n ≤ 64
+  pub size : s ≤ 4000
+  pub character : k < n
+
+most : (lo hi x : ℕ) → within lo hi x ≡ true → x ≤ hi
+most lo hi x e = leb-true x hi (and-eq-true-iff (leb lo x) (leb x hi) .0 e .1)
+
+pub rubyOk-bounds : (base n s k : ℕ) → rubyOk base n s k ≡ true → RubyBounds base n s k
+unfolding sizeOk
+rubyOk-bounds base n s k e =
+    let p = and-eq-true-iff (sizeOk s && within 1 64 n && ltb k n) (within 1 64000 base) .0 e in
+    let q = and-eq-true-iff (sizeOk s && within 1 64 n) (ltb k n) .0 (p .0) in
+    let t = and-eq-true-iff (sizeOk s) (within 1 64 n) .0 (q .0) in
+    let u = and-eq-true-iff (eqb (s % 8) 0) (within 8 4000 s) .0 (t .0) in
+    record {
+      total = most 1 64000 base (p .1);
+      characters = most 1 64 n (t .1);
+      size = most 8 4000 s (u .1);
+      character = ltb-true k n (q .1);
+    }

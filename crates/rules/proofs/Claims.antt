@@ -1,0 +1,114 @@
+-- What is proved of document 01's rules, in reading order: each claim is stated in the words of specs/Meanings.antt and
+-- proved by one citation. Assumes nothing.
+use mathlib.Core.Path.{_≡_, refl, _∙_, sym}
+use Prim.Native.Nat.{ℕ, _+_, _-_, _/_, _≤_, _<_}
+use mathlib.Core.Bool.{Bool, true, false}
+use mathlib.Core.List.{List, [], _∷_, _++_}
+use mathlib.Core.Logic.{_↔_}
+use mathlib.Core.Option.{Option, none, some}
+use lib.ListN.{length, getD}
+use Rattle.rules.specs.Basics.{Run, whole, joined}
+use Rattle.rules.specs.Records.{Rec}
+use Rattle.rules.specs.Groups.{TextUnit, sameGroup, units, advance, groupAdvance, baseOffsets, rubyOffset}
+use Rattle.rules.specs.Breaks.{Gap, bound, width, runs, noBreaking, breaking}
+use Rattle.rules.specs.Adjustment.{amountsOf, totals, natural, Line, lineOf}
+use Rattle.rules.specs.Meanings.{All, TiedRun, lastOf, Maximal, Boundary, OneUnit, Choice, Fits, Longest, FirstWide, GapAt, WithinLimits, FirstStageFull}
+use Rattle.rules.proofs.Facts.{some-none}
+use Rattle.rules.proofs.Cases.{rows, right, cases-hold}
+use Rattle.rules.proofs.Cuts.{cut-maximal, maximal-only, boundary-exact, unit-one}
+use Rattle.rules.proofs.Breaking.{breaking-exists, place-of-10, breaking-choice, lines-fit, lines-longest}
+use Rattle.rules.proofs.Unique.{only-lines}
+use Rattle.rules.proofs.Ends.{ends-within, wide-ends, flush-ends, short-ends, final-ends, within-limits, first-stage-full}
+use Rattle.rules.proofs.GroupRows.{base-within, ruby-within}
+
+-- Units ------------------------------------------------------------------------------------------------------------
+
+-- the units joined up are the records, and they are the maximal runs of neighbours of one non-zero group
+pub units-maximal : (rs : List Rec) → Maximal sameGroup rs (units rs)
+unfolding units
+units-maximal rs = cut-maximal sameGroup rs
+
+-- no other units are
+pub units-only : (rs : List Rec) (us : List TextUnit) → Maximal sameGroup rs us → us ≡ units rs
+unfolding units
+units-only rs us h = maximal-only sameGroup rs us h
+
+-- a unit is a single record, or records of one non-zero group
+pub unit-is : (u : TextUnit) → TiedRun sameGroup u → OneUnit u
+unit-is u h = unit-one u h
+
+-- in a group each item of the shorter row stays within the longer row: a record r of the base row, and ruby character k
+pub base-row-within : (u : TextUnit) (rs : List Rec) (r : Rec) (qs : List Rec) → whole u ≡ rs ++ r ∷ qs →
+    getD (baseOffsets u) (length rs) 0 + r .advance ≤ advance u
+base-row-within u rs r qs e = base-within u rs r qs e
+
+pub ruby-row-within : (base n s k : ℕ) → k < n → rubyOffset base n s k + s / 2 ≤ groupAdvance base n s
+ruby-row-within base n s k h = ruby-within base n s k h
+
+-- Breaks -----------------------------------------------------------------------------------------------------------
+
+-- the boundaries between runs are exactly the permitted breaks
+pub runs-boundaries : (u : TextUnit) (us : List TextUnit) (v : TextUnit) (vs : List TextUnit) →
+    Boundary (runs (u ∷ us ++ v ∷ vs)) (u ∷ us) (v ∷ vs) ↔ (bound (lastOf u us) v ≡ false)
+unfolding runs
+runs-boundaries u us v vs = boundary-exact bound u us v vs
+
+-- answer 10 is not due exactly where some choice of permitted breaks has every line within the measure
+pub no-10-exactly : (m x : ℕ) (us : List TextUnit) → (noBreaking m x us ≡ none) ↔ ((ls : List (Run TextUnit)) × Choice us ls × Fits m x ls)
+no-10-exactly m x us = breaking-exists m x us
+
+-- where it is due there is no such choice, and its place is the first record of the first run that is too wide
+pub answer-10 : (m x : ℕ) (us : List TextUnit) (i : ℕ) → noBreaking m x us ≡ some i →
+    (((ls : List (Run TextUnit)) × Choice us ls × Fits m x ls) → ⊥) × FirstWide m x (runs us) i
+answer-10 m x us i h = (λ c. some-none (sym h ∙ breaking-exists m x us .1 c), place-of-10 m x us i h)
+
+-- where it is not due the lines are such a choice, every line fits, and each is the longest
+pub lines-chosen : (m x : ℕ) (us : List TextUnit) → noBreaking m x us ≡ none →
+    Choice us (breaking m x (runs us)) × Fits m x (breaking m x (runs us)) × Longest m x (breaking m x (runs us))
+lines-chosen m x us h = (breaking-choice m x us, lines-fit m x us h, lines-longest m x us)
+
+-- and no other lines are
+pub lines-only : (m x : ℕ) (us : List TextUnit) (ls : List (Run TextUnit)) → Choice us ls → Fits m x ls → Longest m x ls →
+    noBreaking m x us ≡ none → ls ≡ breaking m x (runs us)
+lines-only m x us ls c f l h =
+    let b = breaking-choice m x us in
+    only-lines m x ls (breaking m x (runs us)) (c .joins-up ∙ sym (b .joins-up)) (c .permitted) (b .permitted) f (lines-fit m x us h) l
+    (lines-longest m x us)
+
+-- Adjustment -------------------------------------------------------------------------------------------------------
+-- of a line l that fits the measure m from x on, final or not
+
+module _ (m x : ℕ) (final : Bool) (l : Run TextUnit) (fits : x + width l ≤ m) where
+  -- a line wider than the measure ends exactly at it
+  pub wide-line : m ≤ natural x l → lineOf m x final l .end ≡ m
+  wide-line h = wide-ends m x final l fits h
+
+  -- no line ends past the measure
+  pub line-within : lineOf m x final l .end ≤ m
+  line-within = ends-within m x final l fits
+
+  -- a flush line ends at it
+  pub flush-line : lineOf m x final l .kind ≡ 1 → lineOf m x final l .end ≡ m
+  flush-line h = flush-ends m x final l fits h
+
+  -- a short line ends below it and has no stage 2 gap
+  pub short-line : lineOf m x final l .kind ≡ 2 → (lineOf m x final l .end < m) × (totals (l .first) (l .rest) .stretch₂ ≡ 0)
+  short-line h = short-ends m x final l fits h
+
+  -- no gap leaves its stage's limits
+  pub gap-limits : (s g : Gap) → GapAt (l .first) (l .rest) s g → WithinLimits (amountsOf m x final l) (totals (l .first) (l .rest)) s g
+  gap-limits s g h = within-limits m x final l fits s g h
+
+  -- stage 1 is full before stage 2 moves
+  pub stage-order : (s g : Gap) → GapAt (l .first) (l .rest) s g → FirstStageFull (amountsOf m x final l) (totals (l .first) (l .rest)) s g
+  stage-order s g h = first-stage-full m x final l fits s g h
+
+-- a final line that is not wider than the measure is left as it is
+pub final-line : (m x : ℕ) (l : Run TextUnit) → x + width l ≤ m → natural x l ≤ m → lineOf m x true l .end ≡ natural x l
+final-line m x l fits h = final-ends m x l fits h
+
+-- Composed by hand -------------------------------------------------------------------------------------------------
+
+-- C1 to C13
+pub composed-by-hand : right rows ≡ true
+composed-by-hand = cases-hold

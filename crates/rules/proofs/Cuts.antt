@@ -1,0 +1,185 @@
+-- Laws of `cut`: it gives the maximal runs of tied neighbours, and no others. Assumes nothing.
+use mathlib.Core.Path.{_≡_, refl, ap, sym, _∙_}
+use Prim.Native.Nat.{ℕ}
+use mathlib.Core.Bool.{Bool, true, false, not, cond, _&&_}
+use mathlib.Core.List.{List, [], _∷_, _++_, append-assoc, append-nil}
+use mathlib.Core.Logic.{_⊎_, inl, inr, _↔_}
+use lib.Dec.{eqb}
+use borrow.Author.Tests.{eqb-true, eqb-false}
+use Rattle.rules.specs.Basics.{Run, alone, whole, then, joined, tie, cut}
+use Rattle.rules.specs.Records.{Rec}
+use Rattle.rules.specs.Groups.{TextUnit, joins, sameGroup, units}
+use Rattle.rules.proofs.Facts.{tested, true-false, nil-cons}
+use Rattle.rules.specs.Meanings.{All, all-none, all-more, lastOf, lastIn, Tied, tied-one, tied-more, TiedRun, Apart, apart-none, apart-one, apart-more, Maximal, Boundary, OneUnit, single, grouped}
+
+-- the last element of a list that ends in a run
+pub last-append : {A : Type 0} (a : A) (bs : List A) (c : A) (cs : List A) → lastOf a (bs ++ c ∷ cs) ≡ lastOf c cs
+last-append a [] c cs = refl
+last-append a (b ∷ bs) c cs = last-append b bs c cs
+
+pub joined-append : {A : Type 0} (ls ks : List (Run A)) → joined (ls ++ ks) ≡ joined ls ++ joined ks
+unfolding joined
+joined-append [] ks = refl
+joined-append (l ∷ ls) ks = ap (λ t. whole l ++ t) (joined-append ls ks) ∙ sym (append-assoc (whole l) (joined ls) (joined ks))
+
+module _ {A : Type 0} (t : A → A → Bool) where
+  tie-joined : (a : A) (ls : List (Run A)) → joined (tie t a ls) ≡ a ∷ joined ls
+  unfolding joined
+  tie-joined a [] = refl
+  tie-joined a (l ∷ ls) = elim (tested (t a (l .first))) [ inl e ↦ rw e | inr e ↦ rw e ]
+
+  pub cut-joined : (ps : List A) → joined (cut t ps) ≡ ps
+  unfolding cut joined
+  cut-joined [] = refl
+  cut-joined (a ∷ ps) = tie-joined a (cut t ps) ∙ ap (λ s. a ∷ s) (cut-joined ps)
+
+  tie-tied : (a : A) {ls : List (Run A)} → All (TiedRun t) ls → All (TiedRun t) (tie t a ls)
+  tie-tied a all-none = all-more tied-one all-none
+  tie-tied a (all-more {a = l} h hs) =
+      elim (tested (t a (l .first))) [
+        | inl e ↦ rw e (all-more (tied-more e h) hs)
+        | inr e ↦ rw e (all-more tied-one (all-more h hs))
+      ]
+
+  pub cut-tied : (ps : List A) → All (TiedRun t) (cut t ps)
+  unfolding cut
+  cut-tied [] = all-none
+  cut-tied (a ∷ ps) = tie-tied a (cut-tied ps)
+
+  first-longer : (a : A) {l : Run A} {ls : List (Run A)} → Apart t (l ∷ ls) → Apart t (then (alone a) l ∷ ls)
+  first-longer a apart-one = apart-one
+  first-longer a (apart-more e h) = apart-more e h
+
+  tie-apart : (a : A) (ls : List (Run A)) → Apart t ls → Apart t (tie t a ls)
+  tie-apart a [] h = apart-one
+  tie-apart a (l ∷ ls) h =
+      elim (tested (t a (l .first))) [ inl e ↦ rw e (first-longer a h) | inr e ↦ rw e (apart-more e h) ]
+
+  pub cut-apart : (ps : List A) → Apart t (cut t ps)
+  unfolding cut
+  cut-apart [] = apart-none
+  cut-apart (a ∷ ps) = tie-apart a (cut t ps) (cut-apart ps)
+
+  -- `cut` gives maximal runs
+  pub cut-maximal : (ps : List A) → Maximal t ps (cut t ps)
+  cut-maximal ps = record { joins-up = cut-joined ps; tied = cut-tied ps; apart = cut-apart ps }
+
+  -- a tied run is cut off whole before runs from which it is apart
+  cut-run : (a : A) (bs : List A) (ls : List (Run A)) → cut t (joined ls) ≡ ls → Tied t a bs →
+      Apart t (record { first = a; rest = bs } ∷ ls) → cut t (a ∷ bs ++ joined ls) ≡ record { first = a; rest = bs } ∷ ls
+  unfolding cut
+  cut-run a [] [] h tied-one g = rw h
+  cut-run a [] (l ∷ ls) h tied-one (apart-more e g) = rw (h, e)
+  cut-run a (b ∷ bs) ls h (tied-more e k) g = rw (cut-run b bs ls h k (without g), e)
+    where
+      without : {ls : List (Run A)} → Apart t (record { first = a; rest = b ∷ bs } ∷ ls) → Apart t (record { first = b; rest = bs } ∷ ls)
+      without apart-one = apart-one
+      without (apart-more e h) = apart-more e h
+
+  pub apart-tail : {l : Run A} {ls : List (Run A)} → Apart t (l ∷ ls) → Apart t ls
+  apart-tail apart-one = apart-none
+  apart-tail (apart-more e h) = h
+
+  cut-again : {ls : List (Run A)} → All (TiedRun t) ls → Apart t ls → cut t (joined ls) ≡ ls
+  unfolding cut joined
+  cut-again all-none g = refl
+  cut-again (all-more {a = l} {bs = ls} h hs) g = cut-run (l .first) (l .rest) ls (cut-again hs (apart-tail g)) h g
+
+  all-tail : {P : Run A → Type 0} {l : Run A} {ls : List (Run A)} → All P (l ∷ ls) → All P ls
+  all-tail (all-more h hs) = hs
+
+  -- what follows the first run is cut as it would be by itself
+  pub cut-tail : (ps : List A) (l : Run A) (ls : List (Run A)) → cut t ps ≡ l ∷ ls → ls ≡ cut t (joined ls)
+  cut-tail ps l ls e = sym (cut-again (all-tail (rw e at (cut-tied ps))) (apart-tail (rw e at (cut-apart ps))))
+
+  -- and no other runs are maximal
+  pub maximal-only : (ps : List A) (ls : List (Run A)) → Maximal t ps ls → ls ≡ cut t ps
+  maximal-only ps ls m = sym (cut-again (m .tied) (m .apart)) ∙ ap (λ s. cut t s) (m .joins-up)
+
+  -- the first run starts with the first element
+  pub cut-first : (a : A) (ps : List A) → (l : Run A) × (ls : List (Run A)) × (cut t (a ∷ ps) ≡ l ∷ ls) × (l .first ≡ a)
+  unfolding cut
+  cut-first a ps = from (cut t ps)
+    where
+      from : (ls : List (Run A)) → (l : Run A) × (ks : List (Run A)) × (tie t a ls ≡ l ∷ ks) × (l .first ≡ a)
+      from [] = (alone a, [], refl, refl)
+      from (l ∷ ls) =
+          elim (tested (t a (l .first))) [
+            | inl e ↦ (then (alone a) l, ls, (rw e), refl)
+            | inr e ↦ (alone a, l ∷ ls, (rw e), refl)
+          ]
+
+  tie-append : (a : A) (l : Run A) (ls ks : List (Run A)) → tie t a (l ∷ ls) ++ ks ≡ tie t a ((l ∷ ls) ++ ks)
+  tie-append a l ls ks = elim (tested (t a (l .first))) [ inl e ↦ rw e | inr e ↦ rw e ]
+
+  -- at untied neighbours a list is cut
+  pub cut-split : (a : A) (bs : List A) (c : A) (cs : List A) → t (lastOf a bs) c ≡ false →
+      cut t (a ∷ bs ++ c ∷ cs) ≡ cut t (a ∷ bs) ++ cut t (c ∷ cs)
+  unfolding cut
+  cut-split a [] c cs e =
+      let f = cut-first c cs in
+      let h : t a (f .0 .first) ≡ false = rw (f .3) e in
+      rw (f .2, h)
+  cut-split a (b ∷ bs) c cs e =
+      let f = cut-first b bs in
+      rw (cut-split b bs c cs e, f .2) (sym (tie-append a (f .0) (f .1) (cut t (c ∷ cs))))
+
+  between : (l : Run A) (ls : List (Run A)) (k : Run A) (ks : List (Run A)) → Apart t (l ∷ ls ++ k ∷ ks) →
+      t (lastOf (l .first) (l .rest ++ joined ls)) (k .first) ≡ false
+  unfolding joined
+  between l [] k ks (apart-more e h) = rw append-nil e
+  between l (j ∷ ls) k ks (apart-more e h) = rw last-append (between j ls k ks h)
+
+  boundary-untied : {ls : List (Run A)} {a : A} {bs : List A} {c : A} {cs : List A} → Apart t ls → Boundary ls (a ∷ bs) (c ∷ cs) →
+      t (lastOf a bs) c ≡ false
+  unfolding joined
+  boundary-untied {ls} {a} {bs} {c} {cs} h b = from (b .before) (b .after) (b .all) (b .left) (b .right)
+    where
+      from : (before after : List (Run A)) → before ++ after ≡ ls → joined before ≡ a ∷ bs → joined after ≡ c ∷ cs → t (lastOf a bs) c ≡ false
+      from [] after e f g = absurd (nil-cons f)
+      from (l ∷ before) [] e f g = absurd (nil-cons g)
+      from (l ∷ before) (k ∷ after) e f g =
+          let p : l .first ≡ a = cc in
+          let q : l .rest ++ joined before ≡ bs = cc in
+          let r : k .first ≡ c = cc in
+          rw (p, q, r) at (between l before k after (rw (← e) at h))
+
+  -- the boundaries between the runs are exactly the untied neighbours
+  pub boundary-exact : (a : A) (bs : List A) (c : A) (cs : List A) →
+      Boundary (cut t (a ∷ bs ++ c ∷ cs)) (a ∷ bs) (c ∷ cs) ↔ (t (lastOf a bs) c ≡ false)
+  boundary-exact a bs c cs = (
+    boundary-untied (cut-apart (a ∷ bs ++ c ∷ cs)),
+    λ e.
+        record {
+          before = cut t (a ∷ bs);
+          after = cut t (c ∷ cs);
+          all = sym (cut-split a bs c cs e);
+          left = cut-joined (a ∷ bs);
+          right = cut-joined (c ∷ cs);
+        },
+  )
+
+-- records of one group
+same-group : (p r : Rec) → sameGroup p r ≡ true → (r .group ≡ 0 → ⊥) × (p .group ≡ r .group)
+same-group p r e =
+    elim (tested (eqb (r .group) 0)) [
+      | inl z ↦ let f : false ≡ true = rw z at e in absurd (true-false (sym f))
+      | inr z ↦ (eqb-false _ _ z, eqb-true (p .group) (r .group) (rw z at e))
+    ]
+
+tied-group : {p : Rec} {rs : List Rec} → Tied sameGroup p rs → All (λ r. r .group ≡ p .group) rs
+tied-group tied-one = all-none
+tied-group (tied-more {a = p} {b = r} {bs = rs} e h) =
+    let g = same-group p r e in
+    all-more (sym (g .1)) (rw (← g .1) at (tied-group h))
+
+-- a unit is a single record or a run of one non-zero group
+pub unit-one : (u : TextUnit) → TiedRun sameGroup u → OneUnit u
+unit-one u h = from (u .rest) h refl
+  where
+    from : (rs : List Rec) → Tied sameGroup (u .first) rs → u .rest ≡ rs → OneUnit u
+    from [] g e = single e
+    from (r ∷ rs) g e = grouped {u = u} (λ z. nonzero g z) (rw e (tied-group g))
+      where
+        nonzero : {rs : List Rec} → Tied sameGroup (u .first) (r ∷ rs) → u .first .group ≡ 0 → ⊥
+        nonzero (tied-more e h) z = let g = same-group (u .first) r e in g .0 (sym (g .1) ∙ z)

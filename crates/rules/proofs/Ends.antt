@@ -1,0 +1,219 @@
+-- Where a line ends, by its kind, and what its gaps come to. Assumes nothing.
+use mathlib.Core.Path.{_≡_, refl, ap, sym, _∙_}
+use Prim.Native.Nat.{ℕ, zero, suc, _+_, _*_, _-_, _/_, _≤_, _<_, min}
+use native.Mathlib.Omega.{arith}
+use native.Mathlib.Nat.{mul-div-left, div-zero, zero-mul, zero-div, mul-zero, add-zero, sub-self}
+use mathlib.Core.Bool.{Bool, true, false, cond, _&&_}
+use mathlib.Core.List.{List, [], _∷_}
+use mathlib.Core.Logic.{_⊎_, inl, inr}
+use lib.Dec.{ltb, eqb}
+use borrow.Author.Tests.{ltb-true, ltb-false, eqb-true, eqb-false}
+use Rattle.rules.specs.Basics.{Run, whole}
+use Rattle.rules.specs.Groups.{TextUnit}
+use Rattle.rules.specs.Breaks.{Gap, gap, least, width}
+use Rattle.rules.specs.Adjustment.{Amounts, amounts, amountsOf, share, adjusted, plus, nothing, totals, natural, kindOf, Line, lineOf}
+use Rattle.rules.specs.Meanings.{GapAt, gap-here, gap-later, WithinLimits, FirstStageFull}
+use Rattle.rules.proofs.Facts.{tested}
+use Rattle.rules.proofs.Widths.{natural-smallest}
+use Rattle.rules.proofs.Shares.{share-up, share-cap, shared-out, full-share, none-yet, ending-sum}
+
+-- how far a line is too narrow for its measure: a final line is taken as it is
+abbrev narrow : ℕ → ℕ → Bool → Run TextUnit → ℕ
+narrow m x final l = cond final 0 (m - natural x l)
+
+-- the amounts of a line that fits are what the stages can take
+record Taken (m x : ℕ) (final : Bool) (l : Run TextUnit) (e : Amounts) (c : Gap) : Type 0 where
+  shrink₁ : e .shrink₁ ≤ c .shrink₁
+  shrink₂ : e .shrink₂ ≤ c .shrink₂
+  stretch₁ : e .stretch₁ ≤ c .stretch₁
+  over : e .shrink₁ + e .shrink₂ ≡ natural x l - m
+  under : e .stretch₁ + e .stretch₂ ≡ narrow m x final l
+  full-shrink : 0 < e .shrink₂ → e .shrink₁ ≡ c .shrink₁
+  full-stretch : 0 < e .stretch₂ → e .stretch₁ ≡ c .stretch₁
+
+abbrev gapsOf : Run TextUnit → Gap
+gapsOf l = totals (l .first) (l .rest)
+
+taken : (m x : ℕ) (final : Bool) (l : Run TextUnit) → x + width l ≤ m → Taken m x final l (amountsOf m x final l) (gapsOf l)
+unfolding amountsOf amounts
+taken m x final l h =
+    let n = natural-smallest (l .first) (l .rest) in
+    record {
+      shrink₁ = omega arith;
+      shrink₂ = omega arith;
+      stretch₁ = omega arith;
+      over = omega arith;
+      under = omega arith;
+      full-shrink = λ p. omega arith;
+      full-stretch = λ p. omega arith;
+    }
+
+-- what is shared out at stretch stage 2
+abbrev spread : Amounts → Gap → ℕ
+spread e c = e .stretch₂ * c .stretch₂ / c .stretch₂
+
+-- the end of a line that fits
+end-law : (m x : ℕ) (final : Bool) (l : Run TextUnit) → x + width l ≤ m →
+    lineOf m x final l .end + (natural x l - m) ≡ natural x l + amountsOf m x final l .stretch₁ + spread (amountsOf m x final l) (gapsOf l)
+unfolding lineOf
+end-law m x final l h =
+    let c = gapsOf l in
+    let e = amountsOf m x final l in
+    let t = taken m x final l h in
+    omega (
+      arith,
+      ending-sum e c c (t .shrink₁) (t .shrink₂) nothing x (l .first) (l .rest) (omega arith) (omega arith) (omega arith) (omega arith),
+      shared-out (e .shrink₁) (c .shrink₁) (t .shrink₁),
+      shared-out (e .shrink₂) (c .shrink₂) (t .shrink₂),
+      shared-out (e .stretch₁) (c .stretch₁) (t .stretch₁),
+      none-yet (e .shrink₁) (c .shrink₁),
+      none-yet (e .shrink₂) (c .shrink₂),
+      none-yet (e .stretch₁) (c .stretch₁),
+      none-yet (e .stretch₂) (c .stretch₂),
+      t .over,
+    )
+
+spread-all : (e : Amounts) (c : Gap) → (c .stretch₂ ≡ 0 → ⊥) → spread e c ≡ e .stretch₂
+spread-all e c h = mul-div-left (e .stretch₂) (positive (c .stretch₂) h)
+  where
+    positive : (n : ℕ) → (n ≡ 0 → ⊥) → 0 < n
+    positive zero h = absurd (h refl)
+    positive (suc n) h = omega arith
+
+spread-none : (e : Amounts) (c : Gap) → c .stretch₂ ≡ 0 → spread e c ≡ 0
+spread-none e c h = rw (h, div-zero)
+
+spread-zero : (e : Amounts) (c : Gap) → e .stretch₂ ≡ 0 → spread e c ≡ 0
+spread-zero e c h = rw (h, zero-mul, zero-div)
+
+spread-within : (e : Amounts) (c : Gap) → spread e c ≤ e .stretch₂
+spread-within e c =
+    elim (tested (eqb (c .stretch₂) 0)) [
+      | inl q ↦ omega (arith, spread-none e c (eqb-true (c .stretch₂) 0 q))
+      | inr q ↦ omega (arith, spread-all e c (eqb-false (c .stretch₂) 0 q))
+    ]
+
+-- no line ends past the measure
+pub ends-within : (m x : ℕ) (final : Bool) (l : Run TextUnit) → x + width l ≤ m → lineOf m x final l .end ≤ m
+ends-within m x final l h =
+    let t = taken m x final l h in
+    let n : narrow m x final l ≤ m - natural x l = at-most final in
+    omega (arith, end-law m x final l h, spread-within (amountsOf m x final l) (gapsOf l), t .under)
+  where
+    at-most : (f : Bool) → cond f 0 (m - natural x l) ≤ m - natural x l
+    at-most true = omega arith
+    at-most false = omega arith
+
+-- a line wider than the measure ends at it, final or not
+pub wide-ends : (m x : ℕ) (final : Bool) (l : Run TextUnit) → x + width l ≤ m → m ≤ natural x l → lineOf m x final l .end ≡ m
+wide-ends m x final l h n =
+    let t = taken m x final l h in
+    let z : narrow m x final l ≡ 0 = none final in
+    let s : amountsOf m x final l .stretch₂ ≡ 0 = omega (arith, t .under) in
+    omega (arith, end-law m x final l h, spread-zero (amountsOf m x final l) (gapsOf l) s, t .under)
+  where
+    none : (f : Bool) → cond f 0 (m - natural x l) ≡ 0
+    none true = refl
+    none false = omega arith
+
+-- a final line that is not wider ends where it naturally does
+pub final-ends : (m x : ℕ) (l : Run TextUnit) → x + width l ≤ m → natural x l ≤ m → lineOf m x true l .end ≡ natural x l
+final-ends m x l h n =
+    let t = taken m x true l h in
+    let s : amountsOf m x true l .stretch₂ ≡ 0 = omega (arith, t .under) in
+    omega (arith, end-law m x true l h, spread-zero (amountsOf m x true l) (gapsOf l) s, t .under)
+
+two-one : _≡_ {A = ℕ} 2 1 → ⊥
+two-one e = omega arith
+
+-- a line of kind 1, flush, ends at the measure
+pub flush-ends : (m x : ℕ) (final : Bool) (l : Run TextUnit) → x + width l ≤ m → lineOf m x final l .kind ≡ 1 → lineOf m x final l .end ≡ m
+unfolding lineOf kindOf
+flush-ends m x true l h k = omega arith
+flush-ends m x false l h k =
+    let e = amountsOf m x false l in
+    let t = taken m x false l h in
+    elim (tested (ltb 0 (e .stretch₂))) [
+      | inl p ↦
+          elim (tested (eqb (gapsOf l .stretch₂) 0)) [
+            | inl q ↦ absurd (two-one (rw (p, q) at k))
+            | inr q ↦ omega (arith, end-law m x false l h, spread-all e (gapsOf l) (eqb-false _ _ q), t .under, t .over)
+          ]
+      | inr p ↦
+          let s : e .stretch₂ ≡ 0 = omega (arith, ltb-false 0 (e .stretch₂) p) in
+          omega (arith, end-law m x false l h, spread-zero e (gapsOf l) s, t .under, t .over)
+    ]
+
+-- a line of kind 2, short, ends below the measure and has no gap of stretch stage 2
+pub short-ends : (m x : ℕ) (final : Bool) (l : Run TextUnit) → x + width l ≤ m → lineOf m x final l .kind ≡ 2 →
+    (lineOf m x final l .end < m) × (gapsOf l .stretch₂ ≡ 0)
+unfolding lineOf kindOf
+short-ends m x true l h k = omega arith
+short-ends m x false l h k =
+    let e = amountsOf m x false l in
+    let t = taken m x false l h in
+    elim (tested (ltb 0 (e .stretch₂))) [
+      | inl p ↦
+          elim (tested (eqb (gapsOf l .stretch₂) 0)) [
+            | inl q ↦
+                let z : gapsOf l .stretch₂ ≡ 0 = eqb-true _ _ q in
+                (omega (arith, end-law m x false l h, spread-none e (gapsOf l) z, t .under, t .over, ltb-true 0 (e .stretch₂) p), z)
+            | inr q ↦ absurd (two-one (sym (rw (p, q) at k)))
+          ]
+      | inr p ↦ absurd (two-one (sym (rw p at k)))
+    ]
+
+-- Gaps -------------------------------------------------------------------------------------------------------------
+
+no-weight : (e c s g : ℕ) → g ≡ 0 → share e c s (s + g) ≡ 0
+no-weight e c s g z = rw (z, add-zero, sub-self)
+
+-- the gaps before one, and the gap, are no more than all
+gap-shrink : {u : TextUnit} {us : List TextUnit} {s g : Gap} → GapAt u us s g → s .shrink₁ + g .shrink₁ ≤ totals u us .shrink₁
+unfolding totals
+gap-shrink gap-here = omega arith
+gap-shrink (gap-later h) = omega (arith, gap-shrink h)
+
+gap-stretch : {u : TextUnit} {us : List TextUnit} {s g : Gap} → GapAt u us s g → s .stretch₁ + g .stretch₁ ≤ totals u us .stretch₁
+unfolding totals
+gap-stretch gap-here = omega arith
+gap-stretch (gap-later h) = omega (arith, gap-stretch h)
+
+not-below : (space a b c d p q : ℕ) → a ≤ p → b ≤ q → space - p - q ≤ (space - a - b) + c + d
+not-below space a b c d p q h k = omega arith
+
+not-above : (space a b c d p : ℕ) → c ≤ p → d ≡ 0 → (space - a - b) + c + d ≤ space + p
+not-above space a b c d p h k = omega arith
+
+share-limit : (e c s g : ℕ) → e ≤ c → share e c s (s + g) ≤ g
+share-limit e c s g h = omega (arith, share-cap e c s g h)
+
+share-of-none : (e c s t : ℕ) → e ≡ 0 → share e c s t ≡ 0
+share-of-none e c s t z = rw (z, zero-mul, zero-mul, sub-self)
+
+pub within-limits : (m x : ℕ) (final : Bool) (l : Run TextUnit) → x + width l ≤ m → (s g : Gap) → GapAt (l .first) (l .rest) s g →
+    WithinLimits (amountsOf m x final l) (gapsOf l) s g
+within-limits m x final l h s g at =
+    let c = gapsOf l in
+    let e = amountsOf m x final l in
+    let t = taken m x final l h in
+    let a = share-limit (e .shrink₁) (c .shrink₁) (s .shrink₁) (g .shrink₁) (t .shrink₁) in
+    let b = share-limit (e .shrink₂) (c .shrink₂) (s .shrink₂) (g .shrink₂) (t .shrink₂) in
+    let d = share-limit (e .stretch₁) (c .stretch₁) (s .stretch₁) (g .stretch₁) (t .stretch₁) in
+    record {
+      shrink₁ = a;
+      shrink₂ = b;
+      stretch₁ = d;
+      stretch₂ = λ z. no-weight (e .stretch₂) (c .stretch₂) (s .stretch₂) (g .stretch₂) z;
+      low = not-below (g .space) _ _ _ _ _ _ a b;
+      high = λ z. not-above (g .space) _ _ _ _ _ d (share-of-none (e .stretch₂) (c .stretch₂) (s .stretch₂) (s .stretch₂ + g .stretch₂) z);
+    }
+
+pub first-stage-full : (m x : ℕ) (final : Bool) (l : Run TextUnit) → x + width l ≤ m → (s g : Gap) → GapAt (l .first) (l .rest) s g →
+    FirstStageFull (amountsOf m x final l) (gapsOf l) s g
+first-stage-full m x final l h s g at =
+    let t = taken m x final l h in
+    record {
+      shrink = λ p. rw (t .full-shrink p) (full-share (gapsOf l .shrink₁) (s .shrink₁) (g .shrink₁) (gap-shrink at));
+      stretch = λ p. rw (t .full-stretch p) (full-share (gapsOf l .stretch₁) (s .stretch₁) (g .stretch₁) (gap-stretch at));
+    }

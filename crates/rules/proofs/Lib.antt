@@ -1,0 +1,18 @@
+-- Laws of the rules' definitions and of the leaf functions. `Claims` states what is proved of the rules, in reading order.
+pub mod Facts
+pub mod Cases
+pub mod Cuts
+pub mod Widths
+pub mod Breaking
+pub mod Unique
+pub mod Shares
+pub mod Ends
+pub mod GroupRows
+pub mod Limits
+pub mod Words
+pub mod Lengths
+pub mod Claims
+pub mod Bounds
+pub mod Gaps
+pub mod Rows
+pub mod Table

@@ -1,0 +1,12 @@
+-- `rules::breaks::weight_of` meets its contract. Assumes nothing.
+use borrow.Author.Needs.{needs}
+use Rattle.rules.specs.Breaks.{weight}
+use Rattle.rules.proofs.breaks.weight_of.Statement.{statement}
+use Rattle.rules.proofs.breaks.weight_of.Tie as tie
+
+returns : tie.Need-returns
+unfolding weight
+returns c = rw (c .one-if .ensures, c .before .break-forbidden .ensures)
+
+pub weight-of-spec : {M : Type 1} → statement M
+weight-of-spec = tie.close (tie.spec (λ c κs. search needs) (λ c κs. search needs) returns)

@@ -1,0 +1,57 @@
+-- `rules::groups::ruby_place` meets its contract. Assumes nothing.
+use borrow.Author.Needs.{needs}
+use mathlib.Core.Path.{sym, _∙_}
+use native.Mathlib.Omega.{arith}
+use Rattle.rules.specs.Groups.{rubyOffset, rubyPlace}
+use Rattle.rules.proofs.Bounds.{rubyTotal-small, shift-small, RubyBounds, rubyOk-bounds}
+use Rattle.rules.proofs.groups.ruby_place.Statement.{statement}
+use Rattle.rules.proofs.groups.ruby_place.Tie as tie
+
+bounds : (c : tie.Then1) →
+    let a = c .before .before .args in
+    RubyBounds (a .base-advance) (a .ruby-count) (a .size) (a .k)
+bounds c = rubyOk-bounds _ _ _ _ (sym (c .before .ruby-ok .ensures) ∙ c .if1 .taken)
+
+ruby-total-requires : tie.Need-ruby-total-requires
+ruby-total-requires c κs = (bounds c .characters, bounds c .size)
+
+mul-t9 : tie.Need-mul-t9
+mul-t9 c =
+    let a = c .before .before .before .before .args in
+    let b = bounds (c .before .before) in
+    omega (arith, rubyTotal-small (a .k) (a .size) (omega arith) (b .size))
+
+shift-requires : tie.Need-shift-requires
+shift-requires c κs =
+    let b = bounds (c .before .before) in
+    search needs
+
+add-t11 : tie.Need-add-t11
+add-t11 c =
+    let a = c .before .before .before .before .before .args in
+    let b = bounds (c .before .before .before) in
+    let solid = rubyTotal-small (a .k) (a .size) (omega arith) (b .size) in
+    omega (arith, shift-small (c .before .over .result) (a .ruby-count) (a .k) (b .character))
+
+returns : tie.Need-returns
+unfolding rubyPlace rubyOffset
+returns c =
+    rw (
+      ← c .before .before .before .before .ruby-ok .ensures,
+      c .before .before .before .if1 .taken,
+      c .shift .ensures,
+      c .before .over .ensures,
+      c .before .before .ruby-total .ensures,
+    )
+
+returns-2 : tie.Need-returns-2
+unfolding rubyPlace
+returns-2 c = rw (← c .before .ruby-ok .ensures, c .if1 .left)
+
+pub ruby-place-spec : {M : Type 1} → statement M
+ruby-place-spec =
+    tie.close
+    (tie.spec
+    (λ c κs. search needs) ruby-total-requires (λ c κs. search needs)
+    mul-t9 shift-requires add-t11
+    returns returns-2)

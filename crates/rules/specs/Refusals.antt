@@ -1,0 +1,138 @@
+-- Document 01, "Refusal numbers, in the order they are checked": what each call answers and leaves. A call's table has a
+-- row for each number that it gives, in that order; the first row that applies is the answer.
+--
+--   answer       a number and a place; success is 0 and the line count (set-up: 0 and P)
+--   outcome      an answer, and the words afterwards; "Every refusal leaves the whole sheet unchanged."
+--   judged       answers 8, 9 and 10 of records in a measure
+--   sound        a slot of which answer 4 does not apply
+--   splice       the named stretch of records replaced
+--
+-- Assumes nothing.
+use Prim.Native.Nat.{ℕ, zero, suc, _+_, _*_, _-_, _/_, _%_}
+use mathlib.Core.Bool.{Bool, true, false, cond, not, _&&_, _||_}
+use mathlib.Core.List.{List, [], _∷_, _++_}
+use mathlib.Core.Option.{Option, none, some}
+use lib.Dec.{leb, ltb, eqb}
+use lib.ListN.{length, take, drop, getD}
+use Rattle.rules.specs.Basics.{firstOf}
+use Rattle.rules.specs.Records.{Rec, records, badRecord}
+use Rattle.rules.specs.Groups.{groupFault, units}
+use Rattle.rules.specs.Breaks.{noBreaking}
+use Rattle.rules.specs.Adjustment.{compose}
+use Rattle.rules.specs.Sheet.{slotWords, fresh, clinicOf, measureOf, indentOf, countOf, lineCountOf, recordsOf, limitsOk, slotLimitsOk, slotCount, lengthOk, slotAt, withSlot}
+
+pub record Answer : Type 0 where
+  pub number : ℕ
+  pub place : ℕ
+
+abbrev pub says : ℕ → ℕ → Answer
+says n p = record { number = n; place = p }
+
+abbrev pub Outcome : Type 0
+Outcome = Answer × List ℕ
+
+-- 8, 9 and 10 name a place where they apply
+abbrev pub orElse : ℕ → Option ℕ → Answer → Answer
+orElse n none a = a
+orElse n (some i) a = says n i
+
+-- records in a measure m with an indent x: 8, 9, 10, or 0 and the line count
+unfoldable pub judged : ℕ → ℕ → List Rec → Answer
+judged m x rs =
+    orElse 8 (badRecord 0 rs)
+    (orElse 9 (groupFault rs)
+    (orElse 10 (noBreaking m x (units rs))
+    (says 0 (length (compose m x (units rs))))))
+
+-- 4: "the slot's measure or indent is out of limits, its count is over 256, or its stored records fall under 8, 9 or 10"
+unfoldable pub sound : List ℕ → Bool
+sound s =
+    limitsOk (measureOf s) (indentOf s) && leb (countOf s) 256
+    && eqb (judged (measureOf s) (indentOf s) (recordsOf s) .number) 0
+
+-- "the deleted records go out at the place and the inserted ones come in there"
+unfoldable pub splice : List Rec → ℕ → ℕ → List Rec → List Rec
+splice rs place deleted new = take place rs ++ (new ++ drop (place + deleted) rs)
+
+-- a slot's records as an edit leaves them
+abbrev pub edited : List ℕ → ℕ → ℕ → List ℕ → List Rec
+edited s place deleted inserted = splice (recordsOf s) place deleted (records inserted 0 (length inserted / 6))
+
+-- the rows 4 to 7 of an edit of slot s
+unfoldable pub slotRows : List ℕ → ℕ → ℕ → List ℕ → List (Bool × Answer)
+slotRows s place deleted inserted =
+    (not (sound s), says 4 0)
+    ∷ (ltb (countOf s) place || ltb (countOf s) (place + deleted), says 5 (countOf s))
+    ∷ (not (eqb (length inserted % 6) 0), says 6 0)
+    ∷ (ltb 256 (countOf s - deleted + length inserted / 6), says 7 0)
+    ∷ []
+
+-- an edit of slot s by its own clinic: the answer, and the slot's words. "An accepted edit keeps clinic, measure and indent
+-- and writes every other word of its slot"
+unfoldable pub editSlot : List ℕ → ℕ → ℕ → List ℕ → Outcome
+editSlot s place deleted inserted =
+    let a = firstOf (slotRows s place deleted inserted) (judged (measureOf s) (indentOf s) (edited s place deleted inserted)) in
+    (a, cond (eqb (a .number) 0) (slotWords (clinicOf s) (measureOf s) (indentOf s) (edited s place deleted inserted)) s)
+
+-- the rows 1 to 3, of which each call on a slot begins; 3 looks at no word of the slot but its clinic
+unfoldable pub callRows : List ℕ → ℕ → ℕ → List (Bool × Answer)
+callRows ws caller k =
+    (not (lengthOk (length ws)), says 1 0)
+    ∷ (leb (slotCount ws) k, says 2 0)
+    ∷ (eqb caller 0 || not (eqb caller (clinicOf (slotAt ws k))), says 3 0)
+    ∷ []
+
+-- the answer of rows 1 to 3: 0 where none applies
+unfoldable pub called : List ℕ → ℕ → ℕ → Answer
+called ws caller k = firstOf (callRows ws caller k) (says 0 0)
+
+-- edit of slot k by a caller
+unfoldable pub edit : List ℕ → ℕ → ℕ → ℕ → ℕ → List ℕ → Outcome
+edit ws caller k place deleted inserted =
+    let a = called ws caller k in
+    let o = editSlot (slotAt ws k) place deleted inserted in
+    cond (eqb (a .number) 0) (o .0, withSlot ws k (o .1)) (a, ws)
+
+-- read: "0, or 1, 2, 3, then 4 if the stored line count exceeds 256"
+unfoldable pub readNumber : List ℕ → ℕ → ℕ → ℕ
+readNumber ws caller k =
+    let a = called ws caller k in
+    cond (eqb (a .number) 0) (cond (ltb 256 (lineCountOf (slotAt ws k))) 4 0) (a .number)
+
+-- where in the sheet the words that a read hands back start, and how many they are: "A refused read hands back an empty
+-- part."
+unfoldable pub readStart : List ℕ → ℕ → ℕ → ℕ
+readStart ws caller k = cond (eqb (readNumber ws caller k) 0) (2824 * k + 2056) 0
+
+unfoldable pub readLength : List ℕ → ℕ → ℕ → ℕ
+readLength ws caller k = cond (eqb (readNumber ws caller k) 0) (3 * lineCountOf (slotAt ws k)) 0
+
+unfoldable pub readWords : List ℕ → ℕ → ℕ → List ℕ
+readWords ws caller k = take (readLength ws caller k) (drop (readStart ws caller k) ws)
+
+-- 11: "a clinic, measure or indent out of limits", "first such slot", counted from k
+unfoldable pub badSlot : ℕ → List ℕ → List ℕ → List ℕ → ℕ → Option ℕ
+badSlot k clinics measures indents zero = none
+badSlot k clinics measures indents (suc n) =
+    elim (slotLimitsOk (getD clinics k 0) (getD measures k 0) (getD indents k 0)) [
+      | true ↦ badSlot (suc k) clinics measures indents n
+      | false ↦ some k
+    ]
+
+-- fresh slots of three lists, n of them from slot k on
+unfoldable pub freshSlots : ℕ → List ℕ → List ℕ → List ℕ → ℕ → List ℕ
+freshSlots k clinics measures indents zero = []
+freshSlots k clinics measures indents (suc n) =
+    fresh (getD clinics k 0) (getD measures k 0) (getD indents k 0) ++ freshSlots (suc k) clinics measures indents n
+
+-- set-up: "gives 1 and 11 only"
+unfoldable pub setUpAnswer : ℕ → List ℕ → List ℕ → List ℕ → Answer
+setUpAnswer n clinics measures indents =
+    let p = n / 2824 in
+    cond (not (lengthOk n) || not (eqb (length clinics) p) || not (eqb (length measures) p) || not (eqb (length indents) p)) (says 1 0)
+    (orElse 11 (badSlot 0 clinics measures indents p) (says 0 p))
+
+unfoldable pub setUp : List ℕ → List ℕ → List ℕ → List ℕ → Outcome
+setUp ws clinics measures indents =
+    let a = setUpAnswer (length ws) clinics measures indents in
+    (a, cond (eqb (a .number) 0) (freshSlots 0 clinics measures indents (slotCount ws)) ws)

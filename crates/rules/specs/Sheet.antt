@@ -1,0 +1,90 @@
+-- Document 01, "The sheet": the words of a slot and of a sheet, and their limits.
+--
+--   sheet        P slots of 2,824 words each, P from 1 to 64
+--   slot         head, 256 records, 256 places, 256 lines: 8 + 1,536 + 512 + 768 words
+--   head         clinic, measure, indent, record count, line count, three zeros
+--   place        of a record: x, line number
+--   line         first record, end x, kind
+--   fresh        as set-up leaves a slot: clinic, measure, indent, all else 0
+--
+-- Assumes nothing.
+use Prim.Native.Nat.{ℕ, zero, suc, _+_, _*_, _-_, _/_, _%_}
+use mathlib.Core.Bool.{Bool, _&&_}
+use mathlib.Core.List.{List, [], _∷_, _++_}
+use lib.Dec.{leb, ltb, eqb}
+use lib.ListN.{length, take, drop, getD}
+use Rattle.rules.specs.Basics.{within, zeros, padded}
+use Rattle.rules.specs.Records.{Rec, records, recordWords}
+use Rattle.rules.specs.Groups.{units}
+use Rattle.rules.specs.Adjustment.{Line, compose}
+
+-- the places of line i's records
+unfoldable pub placesOf : ℕ → List ℕ → List ℕ
+placesOf i [] = []
+placesOf i (x ∷ xs) = x ∷ i ∷ placesOf i xs
+
+-- the place words of lines, of which the first is line i
+unfoldable pub placeWords : ℕ → List Line → List ℕ
+placeWords i [] = []
+placeWords i (l ∷ ls) = placesOf i (l .xs) ++ placeWords (suc i) ls
+
+-- the line words of lines, of which the first starts at record f
+unfoldable pub lineWords : ℕ → List Line → List ℕ
+lineWords f [] = []
+lineWords f (l ∷ ls) = f ∷ l .end ∷ l .kind ∷ lineWords (f + l .count) ls
+
+abbrev pub head : ℕ → ℕ → ℕ → ℕ → ℕ → List ℕ
+head clinic m x n lines = clinic ∷ m ∷ x ∷ n ∷ lines ∷ 0 ∷ 0 ∷ 0 ∷ []
+
+-- the words of a slot of these records and lines: "Words past the counts are zero."
+abbrev pub slotOf : ℕ → ℕ → ℕ → List Rec → List Line → List ℕ
+slotOf clinic m x rs ls =
+    head clinic m x (length rs) (length ls) ++ padded 1536 (recordWords rs) ++ padded 512 (placeWords 0 ls)
+    ++ padded 768 (lineWords 0 ls)
+
+-- the 2,824 words of a slot, from its clinic, measure, indent and records
+unfoldable pub slotWords : ℕ → ℕ → ℕ → List Rec → List ℕ
+slotWords clinic m x rs = slotOf clinic m x rs (compose m x (units rs))
+
+abbrev pub fresh : ℕ → ℕ → ℕ → List ℕ
+fresh clinic m x = clinic ∷ m ∷ x ∷ zeros 2821
+
+-- the head's words, and the records, of a slot s
+abbrev pub clinicOf : List ℕ → ℕ
+clinicOf s = getD s 0 0
+
+abbrev pub measureOf : List ℕ → ℕ
+measureOf s = getD s 1 0
+
+abbrev pub indentOf : List ℕ → ℕ
+indentOf s = getD s 2 0
+
+abbrev pub countOf : List ℕ → ℕ
+countOf s = getD s 3 0
+
+abbrev pub lineCountOf : List ℕ → ℕ
+lineCountOf s = getD s 4 0
+
+abbrev pub recordsOf : List ℕ → List Rec
+recordsOf s = records (drop 8 s) 0 (countOf s)
+
+-- "Limits: clinic 0 to 65,535, where 0 is unassigned; measure 8 to 1,000,000; indent below measure."
+abbrev pub limitsOk : ℕ → ℕ → Bool
+limitsOk m x = within 8 1000000 m && ltb x m
+
+abbrev pub slotLimitsOk : ℕ → ℕ → ℕ → Bool
+slotLimitsOk clinic m x = leb clinic 65535 && limitsOk m x
+
+-- P, and "2,824 P for a P from 1 to 64"
+abbrev pub slotCount : List ℕ → ℕ
+slotCount ws = length ws / 2824
+
+abbrev pub lengthOk : ℕ → Bool
+lengthOk n = eqb (n % 2824) 0 && within 1 64 (n / 2824)
+
+-- slot k of a sheet, and the sheet with other words there
+abbrev pub slotAt : List ℕ → ℕ → List ℕ
+slotAt ws k = take 2824 (drop (2824 * k) ws)
+
+abbrev pub withSlot : List ℕ → ℕ → List ℕ → List ℕ
+withSlot ws k s = take (2824 * k) ws ++ (s ++ drop 2824 (drop (2824 * k) ws))

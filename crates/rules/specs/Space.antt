@@ -1,0 +1,71 @@
+-- Document 01, "Space between units": rules a to k.
+--
+--   L, R         the left and the right unit's class
+--   space        字間のアキ, between two units of a line, in fractions of the left and of the right size
+--   gap          the place between two units of a line, and the space set there
+--
+-- "No space is set before the first or after the last unit of a line": a line's gaps stand between its units.
+-- Assumes nothing.
+use Prim.Native.Nat.{ℕ, _+_, _/_}
+use mathlib.Core.Bool.{Bool, true, false, cond, _&&_}
+use mathlib.Core.List.{List, [], _∷_}
+use lib.Dec.{eqb}
+use Rattle.rules.specs.Basics.{isIn}
+
+pub data Rule : Type 0 where
+  rule-a rule-b rule-c rule-d rule-e rule-f rule-g rule-h rule-i rule-j rule-k : Rule
+
+-- "The first matching rule holds."
+unfoldable pub ruleOf : ℕ → ℕ → Rule
+ruleOf l r =
+    cond (eqb l 5 && eqb r 5) rule-a
+    (cond (isIn l (6 ∷ 7 ∷ []) && eqb r 5) rule-b
+    (cond (eqb r 5) rule-c
+    (cond (eqb l 5) rule-d
+    (cond (eqb l 1) rule-e
+    (cond (eqb l 2) rule-f
+    (cond (isIn l (6 ∷ 7 ∷ [])) rule-g
+    (cond (eqb r 1) rule-h
+    (cond (eqb l 27 && isIn r (9 ∷ 10 ∷ 11 ∷ 15 ∷ 16 ∷ 19 ∷ [])) rule-i
+    (cond (eqb r 27 && isIn l (4 ∷ 9 ∷ 10 ∷ 11 ∷ 15 ∷ 16 ∷ 19 ∷ [])) rule-j
+    rule-k)))))))))
+
+-- fractions of a size, which is a multiple of 8
+pub data Fraction : Type 0 where
+  no-part eighth quarter half : Fraction
+
+abbrev pub part : Fraction → ℕ → ℕ
+part no-part s = 0
+part eighth s = s / 8
+part quarter s = s / 4
+part half s = s / 2
+
+-- a space: a fraction of the left size and one of the right size, added
+pub record Space : Type 0 where
+  pub left : Fraction
+  pub right : Fraction
+
+abbrev pub spaced : Fraction → Fraction → Space
+spaced a b = record { left = a; right = b }
+
+-- the space in the units of the sheet, for a left and a right size
+unfoldable pub measured : Space → ℕ → ℕ → ℕ
+measured p l r = part (p .left) l + part (p .right) r
+
+-- what each rule sets between classes L and R
+unfoldable pub spaceBy : Rule → ℕ → ℕ → Space
+spaceBy rule-a l r = spaced quarter quarter
+spaceBy rule-b l r = spaced half quarter
+spaceBy rule-c l r = spaced no-part quarter
+spaceBy rule-d l r = spaced quarter no-part
+spaceBy rule-e l r = spaced no-part no-part
+spaceBy rule-f l r = cond (isIn r (2 ∷ 6 ∷ 7 ∷ 14 ∷ [])) (spaced no-part no-part) (spaced half no-part)
+spaceBy rule-g l r = cond (isIn r (2 ∷ 6 ∷ 7 ∷ [])) (spaced no-part no-part) (spaced half no-part)
+spaceBy rule-h l r = cond (eqb l 14) (spaced no-part no-part) (spaced no-part half)
+spaceBy rule-i l r = spaced no-part quarter
+spaceBy rule-j l r = spaced quarter no-part
+spaceBy rule-k l r = spaced no-part no-part
+
+-- the space between classes L and R
+unfoldable pub spaceOf : ℕ → ℕ → Space
+spaceOf l r = spaceBy (ruleOf l r) l r

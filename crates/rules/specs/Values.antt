@@ -1,0 +1,102 @@
+-- The program's values as the rules have them: a struct of src/ field by field, an enum of src/ case by case. Of a
+-- name that the two share, the program's ends in `Value`.
+--
+--   .. of        what a function is told: record, side, the rules that match
+--   .. from      what a function answers: kind of advance, rule, gap
+--   classed      the row is that of the class number
+--   bounds       what a function asks of the numbers that it is told, so that its sums and products fit 32 bits
+--
+-- Assumes nothing.
+use mathlib.Core.Path.{_≡_}
+use Prim.Native.Nat.{ℕ, _≤_, _<_}
+use mathlib.Core.Bool.{Bool}
+use mathlib.Core.List.{List, [], _∷_}
+use Rattle.rules.specs.Records.{Rec, recOf, rowOf, advanceKind}
+use Rattle.rules.specs.Records.{AdvanceKind, half-size, to-size, to-twice, full-size}
+use Rattle.rules.specs.Groups.{Side}
+use Rattle.rules.specs.Space.{Rule, rule-a, rule-b, rule-c, rule-d, rule-e, rule-f, rule-g, rule-h, rule-i}
+use Rattle.rules.specs.Space.{rule-j, rule-k, spaceBy}
+use Rattle.rules.specs.Breaks.{flexibility, gapBy, Gap}
+use Rattle.rules.specs.declared.records.Record.{Record}
+use Rattle.rules.specs.declared.records.ClassRow.{ClassRow}
+use Rattle.rules.specs.declared.records.AdvanceKind.{AdvanceKind as KindValue}
+use Rattle.rules.specs.declared.records.AdvanceKind.the-variants.{HalfSize, ToSize, ToTwice, FullSize}
+use Rattle.rules.specs.declared.groups.Side.{Side as SideValue}
+use Rattle.rules.specs.declared.space.Matches.{Matches}
+use Rattle.rules.specs.declared.space.Rule.{Rule as RuleValue}
+use Rattle.rules.specs.declared.space.Rule.the-variants.{A, B, C, D, E, F, G, H, I, J, K}
+use Rattle.rules.specs.declared.breaks.Gap.{Gap as GapValue}
+
+abbrev pub recordOf : Record → Rec
+recordOf rec = recOf (rec .code) (rec .class) (rec .size) (rec .advance) (rec .group) (rec .ruby)
+
+abbrev pub kindFrom : KindValue → AdvanceKind
+kindFrom HalfSize = half-size
+kindFrom ToSize = to-size
+kindFrom ToTwice = to-twice
+kindFrom FullSize = full-size
+
+pub record Classed (c : ℕ) (answer : ClassRow) : Type 0 where
+  pub row : answer .row ≡ rowOf c
+  pub kind : kindFrom (answer .kind) ≡ advanceKind c
+
+abbrev pub sideOf : SideValue → Side
+sideOf side = record { class = side .class; size = side .size; code = side .code }
+
+abbrev pub ruleFrom : RuleValue → Rule
+ruleFrom A = rule-a
+ruleFrom B = rule-b
+ruleFrom C = rule-c
+ruleFrom D = rule-d
+ruleFrom E = rule-e
+ruleFrom F = rule-f
+ruleFrom G = rule-g
+ruleFrom H = rule-h
+ruleFrom I = rule-i
+ruleFrom J = rule-j
+ruleFrom K = rule-k
+
+-- the rows of a table in which the first rule that matches holds
+abbrev pub rowsOf : Matches → List (Bool × Rule)
+rowsOf m =
+    (m .a, rule-a)
+    ∷ (m .b, rule-b)
+    ∷ (m .c, rule-c)
+    ∷ (m .d, rule-d)
+    ∷ (m .e, rule-e)
+    ∷ (m .f, rule-f)
+    ∷ (m .g, rule-g)
+    ∷ (m .h, rule-h)
+    ∷ (m .i, rule-i)
+    ∷ (m .j, rule-j)
+    ∷ []
+
+abbrev pub gapFrom : GapValue → Gap
+gapFrom g =
+    record {
+      space = g .space;
+      shrink₁ = g .shrink1;
+      shrink₂ = g .shrink2;
+      stretch₁ = g .stretch1;
+      stretch₂ = g .stretch2;
+    }
+
+-- a space that no stage before stretch stage 2 changes
+abbrev pub rigidGap : ℕ → ℕ → Gap
+rigidGap x w = record { space = x; shrink₁ = 0; shrink₂ = 0; stretch₁ = 0; stretch₂ = w }
+
+-- the gap that a rule sets between two sides, with its weight at stretch stage 2
+abbrev pub gapUnder : Rule → Side → Side → ℕ → Gap
+gapUnder q l r w = gapBy (flexibility q (l .class)) (spaceBy q (l .class) (r .class)) (l .size) (r .size) w
+
+pub record ShiftBounds (d n k : ℕ) : Type 0 where
+  pub difference : d ≤ 128000
+  pub items : n ≤ 64
+  pub item : k < n
+
+pub record OffsetBounds (ruby s n k solid : ℕ) : Type 0 where
+  pub characters : ruby ≤ 64
+  pub size : s ≤ 4000
+  pub items : n ≤ 16
+  pub item : k < n
+  pub offset : solid ≤ 128000

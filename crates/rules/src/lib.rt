@@ -1,0 +1,20 @@
+// The leaf functions of the rules, a module to a section of document 01, as in specs/.
+mod basics;
+mod breaks;
+mod groups;
+mod records;
+mod space;
+
+pub use breaks::Gap;
+pub use breaks::break_forbidden;
+pub use breaks::gap_between;
+pub use groups::RubyPlace;
+pub use groups::Side;
+pub use groups::base_offset;
+pub use groups::group_advance;
+pub use groups::ruby_place;
+pub use records::AdvanceKind;
+pub use records::ClassRow;
+pub use records::Record;
+pub use records::class_row;
+pub use records::record_ok;
