@@ -22,19 +22,19 @@ abbrev narrow : ℕ → ℕ → Bool → Run TextUnit → ℕ
 narrow m x final l = cond final 0 (m - natural x l)
 
 -- the amounts of a line that fits are what the stages can take
-record Taken (m x : ℕ) (final : Bool) (l : Run TextUnit) (e : Amounts) (c : Gap) : Type 0 where
-  shrink₁ : e .shrink₁ ≤ c .shrink₁
-  shrink₂ : e .shrink₂ ≤ c .shrink₂
-  stretch₁ : e .stretch₁ ≤ c .stretch₁
-  over : e .shrink₁ + e .shrink₂ ≡ natural x l - m
-  under : e .stretch₁ + e .stretch₂ ≡ narrow m x final l
-  full-shrink : 0 < e .shrink₂ → e .shrink₁ ≡ c .shrink₁
-  full-stretch : 0 < e .stretch₂ → e .stretch₁ ≡ c .stretch₁
+pub record Taken (m x : ℕ) (final : Bool) (l : Run TextUnit) (e : Amounts) (c : Gap) : Type 0 where
+  pub shrink₁ : e .shrink₁ ≤ c .shrink₁
+  pub shrink₂ : e .shrink₂ ≤ c .shrink₂
+  pub stretch₁ : e .stretch₁ ≤ c .stretch₁
+  pub over : e .shrink₁ + e .shrink₂ ≡ natural x l - m
+  pub under : e .stretch₁ + e .stretch₂ ≡ narrow m x final l
+  pub full-shrink : 0 < e .shrink₂ → e .shrink₁ ≡ c .shrink₁
+  pub full-stretch : 0 < e .stretch₂ → e .stretch₁ ≡ c .stretch₁
 
 abbrev gapsOf : Run TextUnit → Gap
 gapsOf l = totals (l .first) (l .rest)
 
-taken : (m x : ℕ) (final : Bool) (l : Run TextUnit) → x + width l ≤ m → Taken m x final l (amountsOf m x final l) (gapsOf l)
+pub taken : (m x : ℕ) (final : Bool) (l : Run TextUnit) → x + width l ≤ m → Taken m x final l (amountsOf m x final l) (gapsOf l)
 unfolding amountsOf amounts
 taken m x final l h =
     let n = natural-smallest (l .first) (l .rest) in

@@ -43,6 +43,10 @@ fn shift(d: u32, n: u32, k: u32) -> u32
     requires { ⌜ ShiftBounds d n k ⌝ }
     ensures { λ r. ⌜ r ≡ shiftOf d n k ⌝ }
 {
+    // most units are single records without ruby, and a division costs
+    if d == 0 {
+        return 0;
+    }
     d * (2 * k + 1) / (2 * n)
 }
 

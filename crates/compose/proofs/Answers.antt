@@ -1,0 +1,149 @@
+-- Answers 8, 9 and 10 from the places that the searches give. Assumes nothing.
+use mathlib.Core.Path.{_≡_, refl, sym, ap, _∙_}
+use mathlib.Core.List.{List, [], _∷_, _++_}
+use mathlib.Core.Bool.{Bool, true, false, _&&_}
+use mathlib.Core.Logic.{_⊎_, inl, inr}
+use mathlib.Core.Option.{Option, none, some}
+use Prim.Native.Nat.{ℕ, suc, _+_, _*_, _-_, _/_, _≤_, _<_}
+use native.Mathlib.Omega.{arith}
+use lib.Dec.{eqb, ltb}
+use borrow.Author.Tests.{eqb-true, eqb-false}
+use lib.ListN.{length}
+use Rattle.rules.specs.Basics.{Run, whole, joined}
+use Rattle.rules.specs.Records.{Rec, recOk, badRecord}
+use Rattle.rules.specs.Groups.{TextUnit, sameGroup, badGroup, groupFault, units, counts}
+use Rattle.rules.specs.Breaks.{bound, runs, noBreaking}
+use Rattle.rules.specs.Adjustment.{compose}
+use Rattle.rules.specs.Meanings.{FirstWide}
+use Rattle.rules.specs.Refusals.{Answer, says, orElse, judged}
+use Rattle.rules.proofs.Facts.{tested, some-none, some-same}
+use Rattle.rules.proofs.Cuts.{cut-joined, joined-append}
+use Rattle.rules.proofs.Breaking.{counts-append, place-of-10}
+use Rattle.rules.proofs.Lengths.{counts-units, length-linesOf, composed-few}
+use Rattle.rules.proofs.Words.{length-records}
+use Rattle.compose.specs.Paragraph.{size, paragraph, placeOr, Checked}
+use Rattle.compose.specs.Lines.{broken, composed, Broken, Written}
+use Rattle.compose.specs.Composed.{Accepted, Judged, Composed}
+
+-- a place below n names an answer; n itself names none, where answers name places below n
+pub named : (n r : ℕ) (o : Option ℕ) → r ≡ placeOr n o → r < n → o ≡ some r
+named n r none e h = let z : ⊥ = omega arith in absurd z
+named n r (some i) e h = ap some (sym e)
+
+unnamed : (n r : ℕ) (o : Option ℕ) → ((i : ℕ) → o ≡ some i → i < n) → r ≡ placeOr n o → n ≤ r → o ≡ none
+unnamed n r none k e h = refl
+unnamed n r (some i) k e h = let z : ⊥ = omega (arith, k i refl) in absurd z
+
+bad-within : (i j : ℕ) (rs : List Rec) → badRecord i rs ≡ some j → j < i + length rs
+unfolding badRecord
+bad-within i j [] e = absurd (some-none (sym e))
+bad-within i j (r ∷ rs) e =
+    elim (tested (recOk r)) [
+      | inl z ↦ omega (arith, bad-within (suc i) j rs (rw (z, badRecord) at e))
+      | inr z ↦ let q : i ≡ j = some-same (rw (z, badRecord) at e) in omega arith
+    ]
+
+group-within : (i n j : ℕ) (p : Rec) (rs : List Rec) → badGroup i n p rs ≡ some j → j < i + length rs
+unfolding badGroup
+group-within i n j p [] e = absurd (some-none (sym e))
+group-within i n j p (r ∷ rs) e =
+    elim (tested (sameGroup p r)) [
+      | inr z ↦ omega (arith, group-within (suc i) 1 j r rs (rw (z, badGroup) at e))
+      | inl z ↦
+          elim (tested (eqb (p .size) (r .size) && eqb (p .ruby) (r .ruby) && ltb n 16)) [
+            | inl y ↦ omega (arith, group-within (suc i) (suc n) j r rs (rw (z, y, badGroup) at e))
+            | inr y ↦ let q : i ≡ j = some-same (rw (z, y, badGroup) at e) in omega arith
+          ]
+    ]
+
+fault-within : (j : ℕ) (rs : List Rec) → groupFault rs ≡ some j → j < length rs
+unfolding groupFault
+fault-within j [] e = absurd (some-none (sym e))
+fault-within j (r ∷ rs) e = omega (arith, group-within 1 1 j r rs e)
+
+wide-within : (m x j : ℕ) (rs : List Rec) → noBreaking m x (units rs) ≡ some j → j < length rs
+unfolding runs joined counts
+wide-within m x j rs e =
+    let w = place-of-10 m x (units rs) j e in
+    let a : joined (w .before) ++ joined (w .run ∷ w .after) ≡ units rs =
+    sym (joined-append (w .before) (w .run ∷ w .after)) ∙ ap (λ ls. joined ls) (w .all) ∙ cut-joined bound (units rs) in
+    let n : counts (joined (w .before)) + counts (joined (w .run ∷ w .after)) ≡ length rs =
+    sym (counts-append (joined (w .before)) (joined (w .run ∷ w .after))) ∙ ap (λ us. counts us) a ∙ counts-units rs in
+    omega (arith, n, w .place)
+
+module _ (ws : List ℕ) (r : ℕ) (out : size ws ≤ r) where
+  len : length (paragraph ws) ≡ size ws
+  len = length-records ws 0 (size ws)
+
+  pub no-8 : r ≡ placeOr (size ws) (badRecord 0 (paragraph ws)) → badRecord 0 (paragraph ws) ≡ none
+  no-8 e = unnamed (size ws) r _ (λ i q. omega (arith, bad-within 0 i (paragraph ws) q, len)) e out
+
+  pub no-9 : r ≡ placeOr (size ws) (groupFault (paragraph ws)) → groupFault (paragraph ws) ≡ none
+  no-9 e = unnamed (size ws) r _ (λ i q. omega (arith, fault-within i (paragraph ws) q, len)) e out
+
+  pub no-10 : (m x : ℕ) → r ≡ placeOr (size ws) (noBreaking m x (units (paragraph ws))) → noBreaking m x (units (paragraph ws)) ≡ none
+  no-10 m x e = unnamed (size ws) r _ (λ i q. omega (arith, wide-within m x i (paragraph ws) q, len)) e out
+
+module _ (m x : ℕ) (rs : List Rec) where
+  pub judged-8 : (i : ℕ) → badRecord 0 rs ≡ some i → judged m x rs ≡ says 8 i
+  unfolding judged
+  judged-8 i e = rw e
+
+  pub judged-9 : (i : ℕ) → badRecord 0 rs ≡ none → groupFault rs ≡ some i → judged m x rs ≡ says 9 i
+  unfolding judged
+  judged-9 i a e = rw (a, e)
+
+  pub judged-10 : (i : ℕ) → badRecord 0 rs ≡ none → groupFault rs ≡ none → noBreaking m x (units rs) ≡ some i → judged m x rs ≡ says 10 i
+  unfolding judged
+  judged-10 i a b e = rw (a, b, e)
+
+  pub judged-0 : badRecord 0 rs ≡ none → groupFault rs ≡ none → noBreaking m x (units rs) ≡ none →
+      judged m x rs ≡ says 0 (length (compose m x (units rs)))
+  unfolding judged
+  judged-0 a b e = rw (a, b, e)
+
+-- a refusal and an acceptance, as the contract of `judge` has them
+pub refusal : (ws : List ℕ) (m x : ℕ) (us gs rs : List ℕ) (n p number place : ℕ) → (number ≡ n) × (place ≡ p) → (n ≡ 0 → ⊥) →
+    judged m x (paragraph ws) ≡ says n p → Judged ws m x us gs rs number place
+refusal ws m x us gs rs n p number place e z h =
+    record { refused = λ q. rw (e .0, e .1) h; accepted = λ q. absurd (z (sym (e .0) ∙ q)) }
+
+pub acceptance : (ws : List ℕ) (m x : ℕ) (us gs rs : List ℕ) (number place : ℕ) → number ≡ 0 → Accepted ws m x us gs rs →
+    Judged ws m x us gs rs number place
+acceptance ws m x us gs rs number place e h = record { refused = λ q. absurd (q e); accepted = λ q. h }
+
+-- the number of `judge` is 0 where no answer applies
+pub judged-number : (ws : List ℕ) (m x : ℕ) (us gs rs : List ℕ) (number place : ℕ) → Judged ws m x us gs rs number place →
+    eqb number 0 ≡ eqb (judged m x (paragraph ws) .number) 0
+judged-number ws m x us gs rs number place j =
+    elim (tested (eqb number 0)) [
+      | inl e ↦
+          let a = j .accepted (eqb-true number 0 e) in
+          let q = judged-0 m x (paragraph ws) (a .checked .sound) (a .checked .grouped) (a .fits) in
+          e ∙ sym (ap (λ n. eqb (n .number) 0) q)
+      | inr e ↦ ap (λ n. eqb (n .number) 0) (sym (j .refused (eqb-false number 0 e)))
+    ]
+
+-- there are as many lines as the breaking gives, and no more than records
+pub lines-composed : (ws : List ℕ) (m x : ℕ) → length (composed ws m x) ≡ length (broken ws m x)
+unfolding compose
+lines-composed ws m x = length-linesOf m x (broken ws m x)
+
+pub lines-within : (ws : List ℕ) (m x : ℕ) → length (broken ws m x) ≤ size ws
+lines-within ws m x = omega (arith, lines-composed ws m x, composed-few m x (paragraph ws), length-records ws 0 (size ws))
+
+-- what `compose` answers where nothing is refused
+pub composing : (ws : List ℕ) (m x : ℕ) (us gs rs places₀ lines₀ places lines starts : List ℕ) (count number place : ℕ) →
+    Accepted ws m x us gs rs → Broken ws m x starts count → Written ws places₀ lines₀ places lines count m x →
+    (number ≡ 0) × (place ≡ count) → Composed ws m x places₀ lines₀ places lines number place
+composing ws m x us gs rs places₀ lines₀ places lines starts count number place a b w e =
+    record {
+      answer =
+          judged-0 m x (paragraph ws) (a .checked .sound) (a .checked .grouped) (a .fits)
+          ∙ rw (e .0, e .1, b .count) (ap (says 0) (lines-composed ws m x));
+      written = λ q. rw (e .1) w;
+    }
+
+pub refusing : (ws : List ℕ) (m x : ℕ) (us gs rs places lines : List ℕ) (number place : ℕ) → (number ≡ 0 → ⊥) →
+    Judged ws m x us gs rs number place → Composed ws m x places lines places lines number place
+refusing ws m x us gs rs places lines number place z j = record { answer = j .refused z; written = λ q. absurd (z q) }

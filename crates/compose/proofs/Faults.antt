@@ -1,0 +1,117 @@
+-- The loops of answers 8 and 9, as steps: what is left from a record on gives what the whole paragraph gives.
+-- Assumes nothing.
+use mathlib.Core.Path.{_≡_}
+use Prim.Native.Nat.{ℕ, suc, _+_, _-_, _≤_, _<_}
+use native.Mathlib.Omega.{arith}
+use native.Mathlib.Nat.{sub-zero}
+use mathlib.Core.Bool.{Bool, true, false, _&&_}
+use mathlib.Core.List.{List, [], _∷_}
+use mathlib.Core.Logic.{inl, inr}
+use lib.Dec.{eqb}
+use borrow.Author.Tests.{lt-ltb, le-ltb}
+use Rattle.rules.specs.Records.{Rec, recAt, recOk, badRecord, records}
+use Rattle.rules.specs.Groups.{sameGroup, badGroup, groupFault}
+use Rattle.rules.proofs.Facts.{ordered}
+use Rattle.compose.specs.Paragraph.{size, paragraph, placeOr}
+use Rattle.compose.proofs.Walk.{records-from}
+
+records-end : (ws : List ℕ) (i : ℕ) → size ws ≤ i → records ws i (size ws - i) ≡ []
+unfolding records
+records-end ws i h = let e : size ws - i ≡ 0 = omega arith in rw e
+
+-- Answer 8 ---------------------------------------------------------------------------------------------------------
+
+-- the records before i keep their rules
+pub record Sound (ws : List ℕ) (i : ℕ) : Type 0 where
+  pub same : badRecord i (records ws i (size ws - i)) ≡ badRecord 0 (paragraph ws)
+
+-- the place that answer 8 names, or the number of records
+abbrev badPlace : List ℕ → ℕ
+badPlace ws = placeOr (size ws) (badRecord 0 (paragraph ws))
+
+module _ {ws : List ℕ} where
+  pub sound-start : Sound ws 0
+  sound-start = record { same = rw sub-zero }
+
+  pub sound-more : {i : ℕ} → i < size ws → recOk (recAt ws i) ≡ true → Sound ws i → Sound ws (i + 1)
+  unfolding badRecord
+  sound-more {i} h e s =
+      let n : suc i ≡ i + 1 = omega arith in
+      record { same = rw (records-from ws i h, badRecord, e, n) at (s .same) }
+
+  pub sound-bad : {i : ℕ} → i < size ws → recOk (recAt ws i) ≡ false → Sound ws i → i ≡ badPlace ws
+  unfolding badRecord
+  sound-bad {i} h e s = rw (← s .same, records-from ws i h, badRecord, e)
+
+  pub sound-end : {i : ℕ} → size ws ≤ i → Sound ws i → size ws ≡ badPlace ws
+  unfolding badRecord
+  sound-end {i} h s = rw (← s .same, records-end ws i h)
+
+-- Answer 9 ---------------------------------------------------------------------------------------------------------
+
+-- the records before i keep the rules of groups, and the last of them is the count-th of its group
+pub record Grouped (ws : List ℕ) (i count : ℕ) : Type 0 where
+  pub low : 1 ≤ i
+  pub few : count ≤ 16
+  pub same : badGroup i count (recAt ws (i - 1)) (records ws i (size ws - i)) ≡ groupFault (paragraph ws)
+
+abbrev faultPlace : List ℕ → ℕ
+faultPlace ws = placeOr (size ws) (groupFault (paragraph ws))
+
+module _ {ws : List ℕ} where
+  pub grouped-start : Grouped ws 1 1
+  unfolding badGroup groupFault
+  grouped-start = record { low = omega arith; few = omega arith; same = start }
+    where
+      start : badGroup 1 1 (recAt ws 0) (records ws 1 (size ws - 1)) ≡ groupFault (paragraph ws)
+      start =
+          elim (ordered 0 (size ws)) [
+            | inl h ↦ rw (rw sub-zero at (records-from ws 0 h), groupFault)
+            | inr h ↦ rw (rw sub-zero at (records-end ws 0 h), records-end ws 1 (omega arith))
+          ]
+
+  pub grouped-end : {i count : ℕ} → size ws ≤ i → Grouped ws i count → size ws ≡ faultPlace ws
+  unfolding badGroup
+  grouped-end {i} h g = rw (← g .same, records-end ws i h)
+
+-- two records have equal size and equal ruby count
+abbrev pub alike : Rec → Rec → Bool
+alike p r = eqb (p .size) (r .size) && eqb (p .ruby) (r .ruby)
+
+-- record i is r, and the one before it p
+pub record Neighbours (ws : List ℕ) (i count : ℕ) (p r : Rec) : Type 0 where
+  pub inside : i < size ws
+  pub grouped : Grouped ws i count
+  pub before : p ≡ recAt ws (i - 1)
+  pub here : r ≡ recAt ws i
+
+module _ {ws : List ℕ} {i count : ℕ} {p r : Rec} (n : Neighbours ws i count p r) where
+  left : badGroup i count p (r ∷ records ws (i + 1) (size ws - (i + 1))) ≡ groupFault (paragraph ws)
+  left = rw (n .before, n .here, ← records-from ws i (n .inside)) (n .grouped .same)
+
+  -- they differ, or r is the seventeenth
+  pub grouped-unlike : sameGroup p r ≡ true → alike p r ≡ false → i ≡ faultPlace ws
+  unfolding badGroup
+  grouped-unlike j a = rw (← left, badGroup, j, a)
+
+  pub grouped-many : sameGroup p r ≡ true → alike p r ≡ true → 16 ≤ count → i ≡ faultPlace ws
+  unfolding badGroup
+  grouped-many j a b = rw (← left, badGroup, j, a, le-ltb _ _ b)
+
+  -- from the next record on, with r the k-th of its group
+  next : (k : ℕ) → k ≤ 16 → badGroup (suc i) k r (records ws (i + 1) (size ws - (i + 1))) ≡ groupFault (paragraph ws) →
+      Grouped ws (i + 1) k
+  next k b e =
+      let a : suc i ≡ i + 1 = omega arith in
+      let d : i + 1 - 1 ≡ i = omega arith in
+      record { low = omega arith; few = b; same = rw d (rw (a, n .here) at e) }
+
+  pub grouped-more : sameGroup p r ≡ true → alike p r ≡ true → count < 16 → Grouped ws (i + 1) (count + 1)
+  unfolding badGroup
+  grouped-more j a b =
+      let e : suc count ≡ count + 1 = omega arith in
+      next (count + 1) (omega arith) (rw (badGroup, j, a, lt-ltb _ _ b, e) at left)
+
+  pub grouped-other : sameGroup p r ≡ false → Grouped ws (i + 1) 1
+  unfolding badGroup
+  grouped-other j = next 1 (omega arith) (rw (badGroup, j) at left)

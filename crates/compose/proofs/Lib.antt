@@ -1,0 +1,21 @@
+-- Laws of a paragraph's units, runs and lines, as the composer's loops meet them.
+pub mod Answers
+pub mod Composed
+pub mod Faults
+pub mod Filling
+pub mod FirstLine
+pub mod Floors
+pub mod GapScan
+pub mod Limits
+pub mod LineByLine
+pub mod LinePlaces
+pub mod Pastes
+pub mod PlaceWords
+pub mod RunRows
+pub mod RunScan
+pub mod Stored
+pub mod Stretches
+pub mod Sums
+pub mod UnitPlaces
+pub mod UnitScan
+pub mod Walk

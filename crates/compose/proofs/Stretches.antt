@@ -1,0 +1,52 @@
+-- The units between two records. Assumes nothing.
+use mathlib.Core.Path.{_≡_, refl, ap, sym, _∙_}
+use Prim.Native.Nat.{ℕ, zero, suc, _+_, _-_, _≤_, _<_}
+use native.Mathlib.Omega.{arith}
+use native.Mathlib.Nat.{sub-self}
+use mathlib.Core.List.{List, [], _∷_, _++_}
+use lib.ListN.{length}
+use Rattle.rules.specs.Basics.{Run, whole, joined}
+use Rattle.rules.specs.Groups.{TextUnit, count, counts}
+use Rattle.rules.proofs.Facts.{cons-path}
+use Rattle.compose.specs.Paragraph.{size, from, unitAt, nextAt}
+use Rattle.compose.specs.Lines.{upTo, lineAt}
+use Rattle.compose.proofs.Walk.{unit-step}
+
+upTo-zero : (us : List TextUnit) → upTo 0 us ≡ []
+unfolding upTo
+upTo-zero [] = refl
+upTo-zero (u ∷ us) = refl
+
+-- a line that goes on past its first unit
+pub line-more : (ws : List ℕ) (i j : ℕ) → nextAt ws i < j → j ≤ size ws → lineAt ws i j .rest ≡ whole (lineAt ws (nextAt ws i) j)
+unfolding lineAt upTo
+line-more ws i j h k =
+    let n = nextAt ws i in
+    let e : j - n ≡ suc (j - suc n) = omega arith in
+    let f : suc (j - suc n) - count (unitAt ws n) ≡ j - (n + count (unitAt ws n)) = omega arith in
+    rw (unit-step ws n (omega arith) .rest, e, upTo, f)
+
+-- a line of one unit
+pub line-last : (ws : List ℕ) (i j : ℕ) → j ≤ nextAt ws i → lineAt ws i j .rest ≡ []
+unfolding lineAt
+line-last ws i j h = let e : j - nextAt ws i ≡ 0 = omega arith in rw (e, upTo-zero)
+
+-- the units of whole lines are taken back whole
+upTo-all : (us vs : List TextUnit) → upTo (counts us) (us ++ vs) ≡ us
+unfolding counts upTo
+upTo-all [] vs = upTo-zero vs
+upTo-all (u ∷ us) vs =
+    let e : count u + counts us ≡ suc (length (u .rest) + counts us) = omega arith in
+    let f : suc (length (u .rest) + counts us) - count u ≡ counts us = omega arith in
+    rw (e, upTo, f) (ap (λ ts. u ∷ ts) (upTo-all us vs))
+
+pub line-is : (ws : List ℕ) (i : ℕ) (l : Run TextUnit) (vs : List TextUnit) → i < size ws → whole l ++ vs ≡ from ws i →
+    lineAt ws i (i + counts (whole l)) ≡ l
+unfolding lineAt counts
+line-is ws i l vs h e =
+    let s = unit-step ws i h in
+    let p : l .first ≡ unitAt ws i = cc in
+    let q : l .rest ++ vs ≡ from ws (nextAt ws i) = cc in
+    let n : i + (count (l .first) + counts (l .rest)) - nextAt ws i ≡ counts (l .rest) = omega (arith, ap (λ u. count u) p) in
+    let r : upTo (i + (count (l .first) + counts (l .rest)) - nextAt ws i) (from ws (nextAt ws i)) ≡ l .rest = rw (n, ← q) (upTo-all (l .rest) vs) in
+    λ t. record { first = sym p t; rest = r t }

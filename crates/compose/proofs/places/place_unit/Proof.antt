@@ -1,0 +1,131 @@
+-- `compose::places::place_unit` meets its contract: after k turns the places of k records are written.
+-- Assumes nothing.
+use mathlib.Core.Path.{ap, _∙_}
+use Prim.Native.Nat.{_-_, _*_, _+_}
+use native.Mathlib.Omega.{arith}
+use borrow.Author.Needs.{needs}
+use denote.Ref.{now}
+use Rattle.compose.proofs.Limits.{record-limits, unit-records}
+use Rattle.compose.proofs.UnitPlaces.{UnitPlacing, unit-start, unit-more, unit-done, unit-length, UnitTurn, unit-turn, offset-bounds, offset-limit}
+use Rattle.compose.proofs.places.place_unit.Statement.{statement}
+use Rattle.compose.proofs.places.place_unit.Tie as tie
+use Rattle.compose.proofs.places.place_unit.Reads as reads
+use Rattle.compose.proofs.places.place_unit.Lts as lts
+
+abbrev Inv-loop : tie.InvT-loop
+Inv-loop ws units a line x places₀ records base first solid₀ k₀ places solid k = UnitPlacing ws a line x places₀ places solid k
+
+abbrev μ-loop : tie.MeasureT-loop
+μ-loop ws units a line x places₀ records base first solid₀ k₀ places solid k = records - k
+
+mul-records : tie.Need-mul-records Inv-loop μ-loop
+mul-records c = search needs
+
+mul-records-2 : tie.Need-mul-records-2 Inv-loop μ-loop
+mul-records-2 c = search needs
+
+element-copy-out-records : tie.Need-element-copy-out-records Inv-loop μ-loop
+element-copy-out-records c = search needs
+
+mul-base : tie.Need-mul-base Inv-loop μ-loop
+mul-base c = search needs
+
+add-base : tie.Need-add-base Inv-loop μ-loop
+add-base c = search needs
+
+mul-base-2 : tie.Need-mul-base-2 Inv-loop μ-loop
+mul-base-2 c = search needs
+
+element-copy-out-base : tie.Need-element-copy-out-base Inv-loop μ-loop
+element-copy-out-base c = search needs
+
+record-at-requires : tie.Need-record-at-requires Inv-loop μ-loop
+record-at-requires c κs = search needs
+
+loop-holds : tie.Need-loop-holds Inv-loop μ-loop
+loop-holds c = unit-start (c .before .before .before .before .before .pre)
+
+-- what is known at a turn
+abbrev start : tie.In-loop Inv-loop μ-loop → tie.Start Inv-loop μ-loop
+start c = c .before .before .before .before .before .before .before
+
+turn : (c : tie.In-loop Inv-loop μ-loop) →
+    UnitTurn (now (start c .args .ws)) (start c .args .a) (c .before .loop .places) (c .before .loop .solid) (c .before .loop .k)
+turn c = unit-turn (start c .pre) (c .before .loop .inv) (c .loop-test .taken)
+
+cast-b : tie.Need-cast-b Inv-loop μ-loop
+cast-b c = let t = turn c in omega arith
+
+add-b : tie.Need-add-b Inv-loop μ-loop
+add-b c = let t = turn c in omega arith
+
+base-offset-requires : tie.Need-base-offset-requires Inv-loop μ-loop
+base-offset-requires c κs =
+    offset-bounds (start c .pre) (c .before .loop .inv) (c .loop-test .taken) (c .before .before .record-at .ensures)
+
+add-put-place : tie.Need-add-put-place Inv-loop μ-loop
+add-put-place c =
+    let d = c .before .before in
+    let o = offset-limit (start d .pre) (d .before .loop .inv) (d .loop-test .taken) (d .before .before .record-at .ensures) (c .before .base-offset .ensures) in
+    omega (arith, start d .pre .start)
+
+put-place-requires : tie.Need-put-place-requires Inv-loop μ-loop
+put-place-requires c κs = turn (c .before .before) .room
+
+record-at-requires-2 : tie.Need-record-at-requires-2 Inv-loop μ-loop
+record-at-requires-2 c κs = turn (c .before .before .before .before .before) .inside
+
+add-solid : tie.Need-add-solid Inv-loop μ-loop
+add-solid c =
+    let d = c .before .before .before .before .before .before .before in
+    let p = start d .pre in
+    let t = turn d in
+    omega (arith, ap (λ r. r .advance) (c .before .record-at2 .ensures), record-limits _ (p .checked) _ (t .inside) .advance)
+
+add-k : tie.Need-add-k Inv-loop μ-loop
+add-k c = let t = turn (c .before .before .before .before .before .before .before) in omega arith
+
+loop-less : tie.Need-loop-less Inv-loop μ-loop
+loop-less c = search needs
+
+loop-again : tie.Need-loop-again Inv-loop μ-loop
+loop-again c =
+    let d = c .before .before .before .before .before .before .before in
+    unit-more (start d .pre) (d .before .loop .inv) (d .loop-test .taken) (d .before .before .record-at .ensures)
+    (c .before .before .before .before .put-place .ensures)
+    (c .before .before .before .before .before .before .base-offset .ensures)
+    (c .before .record-at2 .ensures)
+
+same-length : tie.Need-same-length Inv-loop μ-loop
+same-length c = unit-length (c .before .before .before .before .before .before .before .pre) (c .before .loop .inv)
+
+returns : tie.Need-returns Inv-loop μ-loop
+returns c = unit-done (c .before .before .before .before .before .before .before .pre) (c .before .loop .inv) (c .loop-test .left)
+
+pub place-unit-spec : {M : Type 1} → statement M
+place-unit-spec =
+    tie.close
+    (tie.spec
+    Inv-loop
+    μ-loop
+    mul-records
+    mul-records-2
+    element-copy-out-records
+    mul-base
+    add-base
+    mul-base-2
+    element-copy-out-base
+    record-at-requires
+    loop-holds
+    cast-b
+    add-b
+    base-offset-requires
+    add-put-place
+    put-place-requires
+    record-at-requires-2
+    add-solid
+    add-k
+    loop-less
+    loop-again
+    same-length
+    returns)

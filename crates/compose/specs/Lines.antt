@@ -1,0 +1,65 @@
+-- The lines as the program holds them: by the records between which they stand.
+--
+--   firsts       the first record of each line
+--   lineAt       the line of the records from i up to j
+--
+-- Assumes nothing.
+use mathlib.Core.Path.{_≡_}
+use Prim.Native.Nat.{ℕ, zero, suc, _+_, _*_, _-_, _≤_, _<_}
+use mathlib.Core.List.{List, [], _∷_}
+use lib.ListN.{length, take}
+use Rattle.rules.specs.Basics.{Run, whole}
+use Rattle.rules.specs.Groups.{TextUnit, units, count, counts}
+use lib.Seq.{paste}
+use mathlib.Core.Option.{none}
+use Rattle.rules.specs.Breaks.{runs, breaking, noBreaking}
+use Rattle.rules.specs.Adjustment.{Line, compose}
+use Rattle.rules.specs.Sheet.{placeWords, lineWords}
+use Rattle.compose.specs.Paragraph.{size, paragraph, from, unitAt, nextAt, Checked}
+use Rattle.compose.specs.Tables.{UnitTable, GapTable}
+
+unfoldable pub firsts : ℕ → List (Run TextUnit) → List ℕ
+firsts i [] = []
+firsts i (l ∷ ls) = i ∷ firsts (i + counts (whole l)) ls
+
+-- the units of a list up to k records
+unfoldable pub upTo : ℕ → List TextUnit → List TextUnit
+upTo k [] = []
+upTo zero (u ∷ us) = []
+upTo (suc k) (u ∷ us) = u ∷ upTo (suc k - count u) us
+
+unfoldable pub lineAt : List ℕ → ℕ → ℕ → Run TextUnit
+lineAt ws i j = record { first = unitAt ws i; rest = upTo (j - nextAt ws i) (from ws (nextAt ws i)) }
+
+-- a paragraph's lines: by their units, and composed
+abbrev pub broken : List ℕ → ℕ → ℕ → List (Run TextUnit)
+broken ws m x = breaking m x (runs (units (paragraph ws)))
+
+abbrev pub composed : List ℕ → ℕ → ℕ → List Line
+composed ws m x = compose m x (units (paragraph ws))
+
+-- what the breaking leaves: the number of lines, and the first record of each
+pub record Broken (ws : List ℕ) (m x : ℕ) (starts : List ℕ) (lines : ℕ) : Type 0 where
+  pub count : lines ≡ length (broken ws m x)
+  pub first : take lines starts ≡ firsts 0 (broken ws m x)
+
+-- the tables of a checked paragraph
+pub record Tabled (ws us gs : List ℕ) : Type 0 where
+  pub checked : Checked ws
+  pub units : UnitTable ws us
+  pub gaps : GapTable ws gs
+
+-- a paragraph that has a breaking, broken into lines, with room for its places and lines
+pub record Composable (ws us gs starts places lines : List ℕ) (count m x : ℕ) : Type 0 where
+  pub tabled : Tabled ws us gs
+  pub broken : Broken ws m x starts count
+  pub fits : noBreaking m x (units (paragraph ws)) ≡ none
+  pub indent : x ≤ 1000000
+  pub measure : m ≤ 1000000
+  pub place-room : 2 * size ws ≤ length places
+  pub line-room : 3 * count ≤ length lines
+
+-- the place words and line words of the composed lines, at the front of what stood there
+pub record Written (ws places₀ lines₀ places lines : List ℕ) (count m x : ℕ) : Type 0 where
+  pub place-words : places ≡ paste places₀ 0 (placeWords 0 (composed ws m x)) (2 * size ws)
+  pub line-words : lines ≡ paste lines₀ 0 (lineWords 0 (composed ws m x)) (3 * count)

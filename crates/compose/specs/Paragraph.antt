@@ -1,0 +1,59 @@
+-- A paragraph as the program holds it, six words to a record, and its units, gaps and runs by their first record.
+--
+--   size         the number of records
+--   from         the units of the records from record i on
+--   unitAt       the unit that starts with record i; nextAt: the record after it
+--   runAt        the run, between neighbouring permitted breaks, that starts with record i; runEnd: the record after it
+--   checked      a paragraph of at most 256 records, to which answers 8 and 9 do not apply
+--
+-- A unit or run by a record inside a group is what the rules make of the records from there on. No call looks at it.
+-- Assumes nothing.
+use mathlib.Core.Path.{_≡_}
+use Prim.Native.Nat.{ℕ, zero, suc, _+_, _*_, _-_, _/_, _≤_, _<_}
+use mathlib.Core.List.{List, [], _∷_}
+use mathlib.Core.Option.{Option, none, some}
+use lib.ListN.{length}
+use Rattle.rules.specs.Basics.{Run, alone, whole}
+use Rattle.rules.specs.Records.{Rec, recAt, records, badRecord}
+use Rattle.rules.specs.Groups.{TextUnit, units, count, counts, groupFault, sideBy}
+use Rattle.rules.specs.Breaks.{Gap, gapOf, runs}
+
+abbrev pub size : List ℕ → ℕ
+size ws = length ws / 6
+
+-- the paragraph's records
+abbrev pub paragraph : List ℕ → List Rec
+paragraph ws = records ws 0 (size ws)
+
+unfoldable pub from : List ℕ → ℕ → List TextUnit
+from ws i = units (records ws i (size ws - i))
+
+abbrev pub headOr : {A : Type 0} → A → List A → A
+headOr a [] = a
+headOr a (b ∷ bs) = b
+
+unfoldable pub unitAt : List ℕ → ℕ → TextUnit
+unitAt ws i = headOr (alone (recAt ws i)) (from ws i)
+
+abbrev pub nextAt : List ℕ → ℕ → ℕ
+nextAt ws i = i + count (unitAt ws i)
+
+-- the gap after the unit that starts with record i
+unfoldable pub gapAfter : List ℕ → ℕ → Gap
+gapAfter ws i = gapOf (sideBy (recAt ws i)) (sideBy (recAt ws (nextAt ws i)))
+
+unfoldable pub runAt : List ℕ → ℕ → Run TextUnit
+runAt ws i = headOr (alone (unitAt ws i)) (runs (from ws i))
+
+abbrev pub runEnd : List ℕ → ℕ → ℕ
+runEnd ws i = i + counts (whole (runAt ws i))
+
+pub record Checked (ws : List ℕ) : Type 0 where
+  pub few : size ws ≤ 256
+  pub sound : badRecord 0 (paragraph ws) ≡ none
+  pub grouped : groupFault (paragraph ws) ≡ none
+
+-- a place that answer 8, 9 or 10 names, or n
+abbrev pub placeOr : ℕ → Option ℕ → ℕ
+placeOr n none = n
+placeOr n (some i) = i

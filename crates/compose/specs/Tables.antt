@@ -1,0 +1,69 @@
+-- The tables that the composer fills, one row for each record of a paragraph.
+--
+--   unit table   the records, the base total and the advance of the unit that starts there
+--   gap table    the gap after that unit, where another follows: its space and its four capacities
+--   run table    smallest width and records of the run that starts there, and the least of the gap after it
+--
+-- Assumes nothing.
+use mathlib.Core.Path.{_≡_}
+use Prim.Native.Nat.{ℕ, zero, suc, _+_, _*_, _-_, _≤_, _<_}
+use mathlib.Core.List.{List, [], _∷_}
+use lib.ListN.{getD}
+use Rattle.rules.specs.Basics.{Run, whole}
+use Rattle.rules.specs.Groups.{count, counts, baseTotal, advance}
+use Rattle.rules.specs.Breaks.{Gap, gap as gapOf, least, width as widthOf}
+use Rattle.rules.specs.Meanings.{lastIn}
+use Rattle.compose.specs.Paragraph.{size, unitAt, nextAt, gapAfter, runAt, runEnd, Checked}
+
+pub record UnitRow (ws t : List ℕ) (i : ℕ) : Type 0 where
+  pub records : getD t (3 * i) 0 ≡ count (unitAt ws i)
+  pub base : getD t (3 * i + 1) 0 ≡ baseTotal (unitAt ws i)
+  pub advance : getD t (3 * i + 2) 0 ≡ advance (unitAt ws i)
+
+abbrev pub UnitTable : List ℕ → List ℕ → Type 0
+UnitTable ws t = (i : ℕ) → i < size ws → UnitRow ws t i
+
+-- the gap that five words hold, and the words of a gap
+abbrev pub gapIn : List ℕ → ℕ → Gap
+gapIn t i =
+    record {
+      space = getD t (5 * i) 0;
+      shrink₁ = getD t (5 * i + 1) 0;
+      shrink₂ = getD t (5 * i + 2) 0;
+      stretch₁ = getD t (5 * i + 3) 0;
+      stretch₂ = getD t (5 * i + 4) 0;
+    }
+
+abbrev pub gapWords : Gap → List ℕ
+gapWords g = g .space ∷ g .shrink₁ ∷ g .shrink₂ ∷ g .stretch₁ ∷ g .stretch₂ ∷ []
+
+-- a gap gives no more than it has
+abbrev pub Gives : Gap → Type 0
+Gives g = g .shrink₁ + g .shrink₂ ≤ g .space
+
+abbrev pub GapTable : List ℕ → List ℕ → Type 0
+GapTable ws t = (i : ℕ) → i < size ws → nextAt ws i < size ws → gapIn t i ≡ gapAfter ws i
+
+-- width, records and gap are those of the run that starts with record i
+pub record RunRowOf (ws : List ℕ) (i width records gap : ℕ) : Type 0 where
+  pub is-width : width ≡ widthOf (runAt ws i)
+  pub is-records : records ≡ counts (whole (runAt ws i))
+  pub is-gap : runEnd ws i < size ws → gap ≡ least (gapOf (lastIn (runAt ws i)) (unitAt ws (runEnd ws i)))
+
+abbrev pub RunRow : List ℕ → List ℕ → ℕ → Type 0
+RunRow ws t i = RunRowOf ws i (getD t (3 * i) 0) (getD t (3 * i + 1) 0) (getD t (3 * i + 2) 0)
+
+-- the rows from row k on are filled
+abbrev pub RunsFrom : List ℕ → List ℕ → ℕ → Type 0
+RunsFrom ws t k = (i : ℕ) → k ≤ i → i < size ws → RunRow ws t i
+
+-- what row i is made from: the other tables, and the rows after it
+pub record RunsAfter (ws us gs t : List ℕ) (i : ℕ) : Type 0 where
+  pub checked : Checked ws
+  pub units : UnitTable ws us
+  pub gaps : GapTable ws gs
+  pub after : RunsFrom ws t (i + 1)
+  pub inside : i < size ws
+
+abbrev pub RunTable : List ℕ → List ℕ → Type 0
+RunTable ws t = RunsFrom ws t 0

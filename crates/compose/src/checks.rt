@@ -1,0 +1,75 @@
+// Answers 8 and 9, for any words at all. A paragraph is its record words, six to a record.
+ghost use mathlib.Core.Path.{_≡_};
+ghost use Prim.Native.Nat.{_<_};
+ghost use Rattle.rules.specs.Records.{recAt, badRecord};
+ghost use Rattle.rules.specs.Groups.{joins, groupFault, sideBy};
+ghost use Rattle.rules.specs.Values.{recordOf, sideOf};
+ghost use Rattle.compose.specs.Paragraph.{size, paragraph, placeOr};
+use rules::Record;
+use rules::record_ok;
+
+// Record `i` of a paragraph.
+pub(crate) fn record_at(ws: &[u32], i: usize) -> Record
+    requires { ⌜ i < size (now ws) ⌝ }
+    ensures { λ r. ⌜ recordOf r ≡ recAt (now (ws .entry)) i ⌝ }
+{
+    let a = 6 * i;
+    Record {
+        code: ws[a],
+        class: ws[a + 1],
+        size: ws[a + 2],
+        advance: ws[a + 3],
+        group: ws[a + 4],
+        ruby: ws[a + 5],
+    }
+}
+
+// The first record that breaks its own rules, or how many there are.
+pub fn first_bad_record(ws: &[u32]) -> usize
+    ensures { λ r. ⌜ r ≡ placeOr (size (now (ws .entry))) (badRecord 0 (paragraph (now (ws .entry)))) ⌝ }
+{
+    let n = ws.len() / 6;
+    let mut i = 0;
+    while i < n {
+        if !record_ok(record_at(ws, i)) {
+            return i;
+        }
+        i += 1;
+    }
+    n
+}
+
+// Neighbouring records of groups `g` and `h` are of one group.
+pub(crate) fn same_group(g: u32, h: u32) -> bool
+    ensures { λ b. ⌜ b ≡ joins g h ⌝ }
+{
+    (h != 0) & (g == h)
+}
+
+// The first record that breaks a group's rule, or how many there are.
+pub fn first_group_fault(ws: &[u32]) -> usize
+    ensures { λ r. ⌜ r ≡ placeOr (size (now (ws .entry))) (groupFault (paragraph (now (ws .entry)))) ⌝ }
+{
+    let n = ws.len() / 6;
+    let mut i = 1;
+    // how many records of its group stand up to the one before `i`
+    let mut count: u32 = 1;
+    while i < n {
+        let p = record_at(ws, i - 1);
+        let r = record_at(ws, i);
+        if same_group(p.group, r.group) {
+            if !((p.size == r.size) & (p.ruby == r.ruby)) {
+                return i;
+            }
+            if count < 16 {
+                count += 1;
+            } else {
+                return i;
+            }
+        } else {
+            count = 1;
+        }
+        i += 1;
+    }
+    n
+}

@@ -1,0 +1,108 @@
+// A paragraph judged and composed.
+ghost use mathlib.Core.Path.{_≡_};
+ghost use Prim.Native.Nat.{_≤_};
+ghost use lib.Dec.{eqb};
+ghost use Rattle.rules.specs.Refusals.{judged};
+ghost use Rattle.compose.specs.Paragraph.{paragraph, Checked};
+ghost use Rattle.compose.specs.Composed.{Fitting, Filled, Judged, Composed};
+use crate::breaking::break_lines;
+use crate::breaking::first_wide_run;
+use crate::checks::first_bad_record;
+use crate::checks::first_group_fault;
+use crate::places::place_lines;
+use crate::tables::fill_gaps;
+use crate::tables::fill_runs;
+use crate::tables::fill_units;
+
+// A number and a place, as document 01's table of refusals has them.
+#[repr(C)]
+pub struct Answer {
+    pub number: u32,
+    pub place: u32,
+}
+
+fn says(number: u32, place: usize) -> Answer
+    requires { ⌜ place ≤ 256 ⌝ }
+    ensures { λ r. ⌜ (r .number ≡ number) × (r .place ≡ place) ⌝ }
+{
+    Answer {
+        number: number,
+        place: place as u32,
+    }
+}
+
+// Fills the tables of units and gaps, then of runs, from a paragraph that answers 8 and 9 let pass.
+fn fill_tables(ws: &[u32], units: &mut [u32; 768], gaps: &mut [u32; 1280], runs: &mut [u32; 768])
+    requires { ⌜ Checked (now ws) ⌝ }
+    ensures { λ _. ⌜ Filled (now (ws .entry)) (now (units .exit)) (now (gaps .exit)) (now (runs .exit)) ⌝ }
+{
+    fill_units(ws, units);
+    fill_gaps(ws, units, gaps);
+    fill_runs(ws, units, gaps, runs);
+}
+
+// Answers 8, 9 and 10 of a paragraph, in the measure `m` with the indent `x`; or 0, and the tables are filled.
+fn judge(
+    ws: &[u32],
+    m: u32,
+    x: u32,
+    units: &mut [u32; 768],
+    gaps: &mut [u32; 1280],
+    runs: &mut [u32; 768],
+) -> Answer
+    requires { ⌜ Fitting (now ws) m x ⌝ }
+    ensures { λ r. ⌜ Judged (now (ws .entry)) m x (now (units .exit)) (now (gaps .exit)) (now (runs .exit)) (r .number) (r .place) ⌝ }
+{
+    let n = ws.len() / 6;
+    let bad = first_bad_record(ws);
+    if bad < n {
+        return says(8, bad);
+    }
+    let fault = first_group_fault(ws);
+    if fault < n {
+        return says(9, fault);
+    }
+    fill_tables(ws, units, gaps, runs);
+    let wide = first_wide_run(ws, runs, m, x);
+    if wide < n {
+        return says(10, wide);
+    }
+    says(0, 0)
+}
+
+// Whether a paragraph can be composed: answers 8, 9 and 10 do not apply.
+pub fn check(ws: &[u32], m: u32, x: u32) -> bool
+    requires { ⌜ Fitting (now ws) m x ⌝ }
+    ensures { λ r. ⌜ r ≡ eqb (judged m x (paragraph (now (ws .entry))) .number) 0 ⌝ }
+{
+    let mut units = [0u32; 768];
+    let mut gaps = [0u32; 1280];
+    let mut runs = [0u32; 768];
+    let a = judge(ws, m, x, &mut units, &mut gaps, &mut runs);
+    a.number == 0
+}
+
+// Composes a paragraph. Where it is accepted its place words and line words stand at the front of `places` and `lines`,
+// and the answer is 0 and the line count.
+pub fn compose(
+    ws: &[u32],
+    m: u32,
+    x: u32,
+    places: &mut [u32; 512],
+    lines: &mut [u32; 768],
+) -> Answer
+    requires { ⌜ Fitting (now ws) m x ⌝ }
+    ensures { λ r. ⌜ Composed (now (ws .entry)) m x (now (places .entry)) (now (lines .entry)) (now (places .exit)) (now (lines .exit)) (r .number) (r .place) ⌝ }
+{
+    let mut units = [0u32; 768];
+    let mut gaps = [0u32; 1280];
+    let mut runs = [0u32; 768];
+    let a = judge(ws, m, x, &mut units, &mut gaps, &mut runs);
+    if a.number != 0 {
+        return a;
+    }
+    let mut starts = [0u32; 256];
+    let count = break_lines(ws, &runs, m, x, &mut starts);
+    place_lines(ws, &units, &gaps, &starts, count, m, x, places, lines);
+    says(0, count)
+}

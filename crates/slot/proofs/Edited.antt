@@ -1,0 +1,97 @@
+-- The record list of an edit: whole records, zeros past them, and the old records with the named stretch replaced.
+-- Assumes nothing.
+use mathlib.Core.Path.{_≡_, refl, sym, ap, _∙_}
+use mathlib.Core.List.{List, _++_}
+use mathlib.Core.Bool.{true}
+use Prim.Native.Nat.{ℕ, _+_, _-_, _*_, _/_, _%_, _≤_, _<_}
+use native.Mathlib.Omega.{arith}
+use native.Mathlib.Nat.{mul-comm}
+use lib.ListN.{length, take, drop, length-append, length-drop}
+use lib.Seq.{take-at, drop-at, length-take-le}
+use Rattle.rules.specs.Basics.{zeros}
+use Rattle.rules.specs.Records.{records}
+use Rattle.rules.specs.Sheet.{countOf, recordsOf, measureOf, indentOf, limitsOk}
+use Rattle.rules.specs.Refusals.{splice, edited}
+use Rattle.compose.specs.Paragraph.{size, paragraph}
+use Rattle.slot.specs.Slot.{spliced, Replaceable}
+use Rattle.slot.proofs.Spliced.{spliced-records, length-spliced}
+use Rattle.slot.proofs.Replaced.{drop-zeros}
+
+length-zeros : (n : ℕ) → length (zeros n) ≡ n
+unfolding zeros
+length-zeros n = lib.ListN.length-replicate n 0
+
+module _ (s : List ℕ) (p d : ℕ) (ins : List ℕ) (len : length s ≡ 2824) (few : countOf s ≤ 256) (within : p + d ≤ countOf s)
+    (whole : length ins % 6 ≡ 0)
+    (room : (countOf s - d) * 6 + length ins ≤ 1536) where
+  old : List ℕ
+  old = take (6 * countOf s) (drop 8 s)
+
+  k : ℕ
+  k = length ins / 6
+
+  inserted : length ins ≡ 6 * k
+  unfolding k
+  inserted = omega arith
+
+  old-room : 6 * countOf s ≤ length (drop 8 s)
+  old-room = omega (arith, length-drop 8 s)
+
+  total : ℕ
+  total = (countOf s - d) * 6 + length ins
+
+  list-words : List ℕ
+  unfolding old
+  list-words = spliced old (6 * p) (6 * (p + d)) ins
+
+  count-new : p + (k + (countOf s - (p + d))) ≡ total / 6
+  unfolding k total
+  count-new = omega arith
+
+  length-words : length list-words ≡ total
+  unfolding list-words old total k
+  length-words = length-spliced (drop 8 s) ins (countOf s) p d (length ins / 6) old-room within (omega arith) ∙ omega arith
+
+  records-words : paragraph list-words ≡ edited s p d ins
+  unfolding list-words old total k
+  records-words =
+      ap (λ n. records (spliced (take (6 * countOf s) (drop 8 s)) (6 * p) (6 * (p + d)) ins) 0 n) sized
+      ∙ spliced-records (drop 8 s) ins (countOf s) p d (length ins / 6) old-room within (omega arith)
+    where
+      sized : size (spliced (take (6 * countOf s) (drop 8 s)) (6 * p) (6 * (p + d)) ins) ≡ p + (length ins / 6 + (countOf s - (p + d)))
+      sized = omega (arith, length-spliced (drop 8 s) ins (countOf s) p d (length ins / 6) old-room within (omega arith))
+
+  -- the list that the program makes: those words, and zeros
+  pub record NewList (list : List ℕ) : Type 0 where
+    pub replaceable : limitsOk (measureOf s) (indentOf s) ≡ true → Replaceable s list ((countOf s - d) * 6 + length ins)
+    pub records : paragraph (take ((countOf s - d) * 6 + length ins) list) ≡ edited s p d ins
+
+  pub new-list : (list : List ℕ) →
+      list ≡
+      spliced (take (8 + countOf s * 6 - 8) (drop 8 s)) (p * 6) ((p + d) * 6) ins
+      ++ drop (p * 6 + length ins + (length (take (8 + countOf s * 6 - 8) (drop 8 s)) - (p + d) * 6)) (zeros 1536) →
+      NewList list
+  unfolding list-words old total
+  new-list list e =
+      let a : 8 + countOf s * 6 - 8 ≡ 6 * countOf s = omega arith in
+      let b : p * 6 ≡ 6 * p = omega arith in
+      let c : (p + d) * 6 ≡ 6 * (p + d) = omega arith in
+      let l : length (take (6 * countOf s) (drop 8 s)) ≡ 6 * countOf s = length-take-le (6 * countOf s) (drop 8 s) old-room in
+      let n : 6 * p + length ins + (length (take (6 * countOf s) (drop 8 s)) - 6 * (p + d)) ≡ total = omega arith in
+      let f : list ≡ list-words ++ drop total (zeros 1536) = rw (a, b, c, n) at e in
+      let z : drop total (zeros 1536) ≡ zeros (1536 - total) = drop-zeros 1536 total room in
+      record {
+        replaceable =
+            λ q.
+            record {
+              slot = len;
+              limits = q;
+              full =
+                  ap length f ∙ length-append list-words (drop total (zeros 1536))
+                  ∙ omega (arith, length-words, ap length z, length-zeros (1536 - total));
+              room = room;
+              whole = omega arith;
+              rest = ap (λ w. drop total w) f ∙ drop-at list-words (drop total (zeros 1536)) total length-words ∙ z;
+            };
+        records = ap (λ w. paragraph (take total w)) f ∙ ap (λ w. paragraph w) (take-at list-words (drop total (zeros 1536)) total length-words) ∙ records-words;
+      }

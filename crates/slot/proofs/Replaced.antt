@@ -1,0 +1,109 @@
+-- A slot with other records: its words. Assumes nothing.
+use mathlib.Core.Path.{_≡_, refl, sym, ap, _∙_}
+use mathlib.Core.List.{List, [], _∷_, _++_, append-assoc}
+use mathlib.Core.Bool.{Bool, true, false, cond}
+use mathlib.Core.Option.{Option, none, some}
+use Prim.Native.Nat.{ℕ, zero, suc, _+_, _-_, _*_, _/_, _%_, _≤_, _<_}
+use native.Mathlib.Omega.{arith}
+use lib.Dec.{eqb}
+use native.Mathlib.Nat.{sub-zero, suc-sub-suc, zero-add}
+use lib.ListN.{length, take, drop, take-append-drop}
+use lib.Seq.{paste, take-all, take-length, length-take-le}
+use borrow.Author.Tests.{ne-eqb}
+use Rattle.rules.specs.Basics.{zeros, padded}
+use Rattle.rules.specs.Records.{Rec, recordWords, badRecord}
+use Rattle.rules.specs.Groups.{units, groupFault}
+use Rattle.rules.specs.Breaks.{noBreaking}
+use Rattle.rules.specs.Adjustment.{Line, compose}
+use Rattle.rules.specs.Sheet.{head, slotOf, slotWords, placeWords, lineWords, clinicOf, measureOf, indentOf}
+use Rattle.rules.specs.Refusals.{Answer, Outcome, says, orElse, judged}
+use Rattle.rules.proofs.Words.{words-records, length-records}
+use Rattle.rules.proofs.Lengths.{composed-places, composed-lines, composed-few}
+use Rattle.compose.specs.Paragraph.{size, paragraph}
+use Rattle.compose.specs.Lines.{composed, Written}
+use Rattle.compose.specs.Composed.{Composed}
+use Rattle.slot.specs.Slot.{headOf, replaced, Replaceable}
+
+pub refused-slot : (s : List ℕ) (rs : List Rec) (number place : ℕ) → (number ≡ 0 → ⊥) →
+    judged (measureOf s) (indentOf s) rs ≡ says number place → _≡_ {A = Outcome} (says number place, s) (replaced s rs)
+unfolding replaced
+refused-slot s rs number place z e = rw (e, ne-eqb number 0 z)
+
+-- words at the front of zeros
+pub drop-zeros : (n k : ℕ) → k ≤ n → drop k (zeros n) ≡ zeros (n - k)
+unfolding zeros
+drop-zeros n zero h = rw sub-zero
+drop-zeros zero (suc k) h = let z : ⊥ = omega arith in absurd z
+drop-zeros (suc n) (suc k) h = rw suc-sub-suc (drop-zeros n k (omega arith))
+
+padded-paste : (n k : ℕ) (ws : List ℕ) → length ws ≡ k → k ≤ n → paste (zeros n) 0 ws k ≡ padded n ws
+padded-paste n k ws e h = rw (← e, take-length, zero-add) (ap (λ l. ws ++ l) (drop-zeros n (length ws) (omega arith)))
+
+-- an accepted paragraph is answered by its line count
+no-8 : {p i : ℕ} → says 8 i ≡ says 0 p → ⊥
+no-8 e = let z : _≡_ {A = ℕ} 8 0 = ap (λ a. a .number) e in omega arith
+
+no-9 : {p i : ℕ} → says 9 i ≡ says 0 p → ⊥
+no-9 e = let z : _≡_ {A = ℕ} 9 0 = ap (λ a. a .number) e in omega arith
+
+no-10 : {p i : ℕ} → says 10 i ≡ says 0 p → ⊥
+no-10 e = let z : _≡_ {A = ℕ} 10 0 = ap (λ a. a .number) e in omega arith
+
+by-lines : (a b c : Option ℕ) (n p : ℕ) → orElse 8 a (orElse 9 b (orElse 10 c (says 0 n))) ≡ says 0 p → p ≡ n
+by-lines (some i) b c n p e = absurd (no-8 e)
+by-lines none (some i) c n p e = absurd (no-9 e)
+by-lines none none (some i) n p e = absurd (no-10 e)
+by-lines none none none n p e = sym (ap (λ a. a .place) e)
+
+line-count : (m x : ℕ) (rs : List Rec) (p : ℕ) → judged m x rs ≡ says 0 p → p ≡ length (compose m x (units rs))
+unfolding judged
+line-count m x rs p e = by-lines (badRecord 0 rs) (groupFault rs) (noBreaking m x (units rs)) (length (compose m x (units rs))) p e
+
+regrouped : (p l q s : List ℕ) → p ++ (l ++ (q ++ s)) ≡ p ++ l ++ q ++ s
+regrouped p l q s = simp append-assoc
+
+assembled : (clinic m x : ℕ) {n n′ k k′ : ℕ} {a a′ b b′ c c′ : List ℕ} → n ≡ n′ → k ≡ k′ → a ≡ a′ → b ≡ b′ → c ≡ c′ →
+    head clinic m x n k ++ (a ++ (b ++ c)) ≡ head clinic m x n′ k′ ++ a′ ++ b′ ++ c′
+assembled clinic m x {n′ = n′} {k′ = k′} {a′ = a′} {b′ = b′} {c′ = c′} p q e f g =
+    (λ i. head clinic m x (p i) (q i) ++ (e i ++ (f i ++ g i))) ∙ regrouped (head clinic m x n′ k′) a′ b′ c′
+
+module _ (s list : List ℕ) (total : ℕ) (h : Replaceable s list total) where
+  abbrev ws : List ℕ
+  ws = take total list
+
+  length-ws : length ws ≡ total
+  length-ws = length-take-le total list (omega (arith, h .full, h .room))
+
+  six : 6 * size ws ≡ total
+  six = omega (arith, length-ws, h .whole)
+
+  list-padded : list ≡ padded 1536 (recordWords (paragraph ws))
+  list-padded =
+      let e : recordWords (paragraph ws) ≡ ws = words-records ws (size ws) (omega (arith, six, length-ws)) ∙ take-all (6 * size ws) ws (omega (arith, six, length-ws)) in
+      sym (take-append-drop total list) ∙ ap (λ l. ws ++ l) (h .rest ∙ ap (λ n. zeros (1536 - n)) (sym length-ws)) ∙ ap (λ l. padded 1536 l) (sym e)
+
+  pub replaced-few : size ws ≤ 256
+  replaced-few = omega (arith, six, h .room)
+
+  pub accepted-slot : (places lines words : List ℕ) (number place : ℕ) → number ≡ 0 →
+      Composed ws (measureOf s) (indentOf s) (zeros 512) (zeros 768) places lines number place →
+      words ≡ headOf s (total / 6) place ++ (list ++ (places ++ lines)) →
+      _≡_ {A = Outcome} (says number place, words) (replaced s (paragraph ws))
+  unfolding replaced slotWords
+  accepted-slot places lines words number place z c w =
+      let m = measureOf s in
+      let x = indentOf s in
+      let rs = paragraph ws in
+      let ls = compose m x (units rs) in
+      let n : length rs ≡ size ws = length-records ws 0 (size ws) in
+      let k : place ≡ length ls = line-count m x rs place (rw z at (c .answer)) in
+      let few : length ls ≤ length rs = composed-few m x rs in
+      let p : places ≡ padded 512 (placeWords 0 ls) =
+      c .written z .place-words
+      ∙ padded-paste 512 (2 * size ws) (placeWords 0 ls) (composed-places m x rs ∙ ap (λ j. 2 * j) n) (omega (arith, replaced-few)) in
+      let l : lines ≡ padded 768 (lineWords 0 ls) =
+      c .written z .line-words
+      ∙ padded-paste 768 (3 * place) (lineWords 0 ls) (composed-lines m x rs ∙ ap (λ j. 3 * j) (sym k)) (omega (arith, replaced-few, few, n, k)) in
+      let t : total / 6 ≡ length rs = omega (arith, six, n) in
+      let e : eqb (judged m x rs .number) 0 ≡ true = rw (c .answer, z) in
+      rw (e, c .answer) (ap (λ o. (says number place, o)) (w ∙ assembled (clinicOf s) m x t k list-padded p l))

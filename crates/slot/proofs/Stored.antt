@@ -1,0 +1,75 @@
+-- A slot's stored records, and whether they are sound. Assumes nothing.
+use mathlib.Core.Path.{_≡_, refl, sym, ap, _∙_}
+use mathlib.Core.List.{List}
+use mathlib.Core.Bool.{Bool, true, false, _&&_}
+use Prim.Native.Nat.{ℕ, _+_, _-_, _*_, _/_, _≤_, _<_}
+use native.Mathlib.Omega.{arith}
+use lib.Dec.{leb, ltb, eqb}
+use lib.ListN.{length, take, drop, length-drop}
+use lib.Seq.{length-take-le}
+use borrow.Author.Tests.{leb-true, ltb-true, le-leb, lt-leb}
+use Rattle.rules.specs.Basics.{within}
+use Rattle.rules.specs.Records.{records}
+use Rattle.rules.specs.Sheet.{measureOf, indentOf, countOf, recordsOf, limitsOk}
+use Rattle.rules.specs.Refusals.{judged, sound}
+use Rattle.rules.proofs.Limits.{and-left, and-right}
+use Rattle.rules.proofs.Words.{records-take}
+use Rattle.compose.specs.Paragraph.{size, paragraph}
+use Rattle.compose.specs.Composed.{Fitting}
+
+-- measure and indent within limits
+pub limits-measure : (m x : ℕ) → limitsOk m x ≡ true → m ≤ 1000000
+limits-measure m x e = leb-true m 1000000 (and-right (leb 8 m) (leb m 1000000) (and-left (within 8 1000000 m) (ltb x m) e))
+
+pub limits-indent : (m x : ℕ) → limitsOk m x ≡ true → x < m
+limits-indent m x e = ltb-true x m (and-right (within 8 1000000 m) (ltb x m) e)
+
+-- n records at the front of some words, as a paragraph
+pub front-size : (w : List ℕ) (n : ℕ) → 6 * n ≤ length w → size (take (6 * n) w) ≡ n
+front-size w n h = omega (arith, length-take-le (6 * n) w h)
+
+pub front-paragraph : (w : List ℕ) (n : ℕ) → 6 * n ≤ length w → paragraph (take (6 * n) w) ≡ records w 0 n
+front-paragraph w n h = ap (λ k. records (take (6 * n) w) 0 k) (front-size w n h) ∙ records-take w n
+
+pub fitting : (ws : List ℕ) (m x : ℕ) → size ws ≤ 256 → limitsOk m x ≡ true → Fitting ws m x
+fitting ws m x h e =
+    record { few = h; measure = limits-measure m x e; indent = omega (arith, limits-measure m x e, limits-indent m x e) }
+
+-- the part of a slot that its records are
+module _ (s : List ℕ) (len : length s ≡ 2824) (few : countOf s ≤ 256) where
+  room : 6 * countOf s ≤ length (drop 8 s)
+  room = omega (arith, length-drop 8 s)
+
+  part : take (8 + 6 * countOf s - 8) (drop 8 s) ≡ take (6 * countOf s) (drop 8 s)
+  part = let e : 8 + 6 * countOf s - 8 ≡ 6 * countOf s = omega arith in rw e
+
+  pub stored-size : size (take (8 + 6 * countOf s - 8) (drop 8 s)) ≤ 256
+  stored-size = rw part (omega (arith, front-size (drop 8 s) (countOf s) room))
+
+  pub stored-paragraph : paragraph (take (8 + 6 * countOf s - 8) (drop 8 s)) ≡ recordsOf s
+  stored-paragraph = ap (λ ws. paragraph ws) part ∙ front-paragraph (drop 8 s) (countOf s) room
+
+-- answer 4, test by test
+module _ (s : List ℕ) where
+  pub limits-off : limitsOk (measureOf s) (indentOf s) ≡ false → sound s ≡ false
+  unfolding sound
+  limits-off e = rw e
+
+  pub count-off : limitsOk (measureOf s) (indentOf s) ≡ true → 256 < countOf s → sound s ≡ false
+  unfolding sound
+  count-off e h = rw (e, lt-leb (countOf s) 256 h)
+
+  pub records-tell : limitsOk (measureOf s) (indentOf s) ≡ true → countOf s ≤ 256 →
+      sound s ≡ eqb (judged (measureOf s) (indentOf s) (recordsOf s) .number) 0
+  unfolding sound
+  records-tell e h = rw (e, le-leb (countOf s) 256 h)
+
+  -- what a sound slot has
+  pub sound-limits : sound s ≡ true → limitsOk (measureOf s) (indentOf s) ≡ true
+  unfolding sound
+  sound-limits e = and-left (limitsOk (measureOf s) (indentOf s)) (leb (countOf s) 256) (and-left (limitsOk (measureOf s) (indentOf s) && leb (countOf s) 256) _ e)
+
+  pub sound-count : sound s ≡ true → countOf s ≤ 256
+  unfolding sound
+  sound-count e =
+      leb-true (countOf s) 256 (and-right (limitsOk (measureOf s) (indentOf s)) (leb (countOf s) 256) (and-left (limitsOk (measureOf s) (indentOf s) && leb (countOf s) 256) _ e))

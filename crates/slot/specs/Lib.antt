@@ -1,0 +1,2 @@
+-- What the slot's contracts cite beside the rules.
+pub mod Slot

@@ -1,0 +1,38 @@
+-- One slot's words, in pieces, as the program writes them.
+--
+--   head of      the eight words of a head, with the slot's clinic, measure and indent and other counts
+--   spliced      the words of a record list with a stretch replaced
+--   replaced     what becomes of a slot whose records are to be others: the answer, and the slot's words
+--
+-- Assumes nothing.
+use mathlib.Core.Path.{_≡_}
+use Prim.Native.Nat.{ℕ, zero, suc, _+_, _-_, _*_, _/_, _%_, _≤_}
+use mathlib.Core.List.{List, [], _∷_, _++_}
+use mathlib.Core.Bool.{Bool, true, false, cond}
+use lib.Dec.{eqb}
+use lib.ListN.{length, take, drop}
+use Rattle.rules.specs.Basics.{zeros}
+use Rattle.rules.specs.Records.{Rec}
+use Rattle.rules.specs.Sheet.{head, slotWords, clinicOf, measureOf, indentOf, limitsOk}
+use Rattle.rules.specs.Refusals.{Answer, Outcome, judged}
+
+abbrev pub headOf : List ℕ → ℕ → ℕ → List ℕ
+headOf s n lines = head (clinicOf s) (measureOf s) (indentOf s) n lines
+
+-- words up to `before`, then others, then the words from `after` on
+abbrev pub spliced : List ℕ → ℕ → ℕ → List ℕ → List ℕ
+spliced ws before after inserted = take before ws ++ (inserted ++ drop after ws)
+
+unfoldable pub replaced : List ℕ → List Rec → Outcome
+replaced s rs =
+    let a = judged (measureOf s) (indentOf s) rs in
+    (a, cond (eqb (a .number) 0) (slotWords (clinicOf s) (measureOf s) (indentOf s) rs) s)
+
+-- a slot whose measure and indent are within limits, and a list of whole records, with zeros past them, to replace its own
+pub record Replaceable (s list : List ℕ) (total : ℕ) : Type 0 where
+  pub slot : length s ≡ 2824
+  pub limits : limitsOk (measureOf s) (indentOf s) ≡ true
+  pub full : length list ≡ 1536
+  pub room : total ≤ 1536
+  pub whole : total % 6 ≡ 0
+  pub rest : drop total list ≡ zeros (1536 - total)

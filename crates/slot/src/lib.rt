@@ -1,0 +1,5 @@
+// One slot of a sheet: its 2,824 words as a lent slice.
+mod edit;
+mod words;
+
+pub use edit::edit_slot;

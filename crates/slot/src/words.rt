@@ -1,0 +1,67 @@
+// Words copied, a record list spliced, and every word of a slot written.
+ghost use mathlib.Core.Path.{_≡_};
+ghost use mathlib.Core.List.{_++_};
+ghost use Prim.Native.Nat.{_+_, _-_, _≤_};
+ghost use lib.ListN.{length, drop};
+ghost use lib.Seq.{paste};
+ghost use Rattle.slot.specs.Slot.{headOf, spliced};
+
+// Copies all of `src` into `dst` from index `at`.
+fn copy_in(dst: &mut [u32], at: usize, src: &[u32])
+    requires { ⌜ at + length (now src) ≤ length (now dst) ⌝ }
+    ensures { λ _. ⌜ now (dst .exit) ≡ paste (now (dst .entry)) at (now (src .entry)) (length (now (src .entry))) ⌝ }
+{
+    let mut j = 0;
+    while j < src.len() {
+        dst[at + j] = src[j];
+        j += 1;
+    }
+}
+
+// Writes into `list` the records up to `before`, then `inserted`, then the records from `after` on, all in words. What
+// `list` holds past them stays.
+pub(crate) fn splice(
+    list: &mut [u32],
+    records: &[u32],
+    before: usize,
+    after: usize,
+    inserted: &[u32],
+)
+    requires { ⌜ (before ≤ after) × (after ≤ length (now records)) ⌝ }
+    requires { ⌜ before + length (now inserted) + (length (now records) - after) ≤ length (now list) ⌝ }
+    ensures { λ _. ⌜ now (list .exit) ≡ spliced (now (records .entry)) before after (now (inserted .entry)) ++ drop (before + length (now (inserted .entry)) + (length (now (records .entry)) - after)) (now (list .entry)) ⌝ }
+{
+    copy_in(list, 0, &records[0..before]);
+    copy_in(list, before, inserted);
+    copy_in(list, before + inserted.len(), &records[after..]);
+}
+
+// Writes the head of a slot after clinic, measure and indent.
+fn put_head(words: &mut [u32], count: u32, lines: u32)
+    requires { ⌜ 8 ≤ length (now words) ⌝ }
+    ensures { λ _. ⌜ now (words .exit) ≡ headOf (now (words .entry)) count lines ++ drop 8 (now (words .entry)) ⌝ }
+{
+    words[3] = count;
+    words[4] = lines;
+    words[5] = 0;
+    words[6] = 0;
+    words[7] = 0;
+}
+
+// Writes every word of a slot but clinic, measure and indent.
+pub(crate) fn write_slot(
+    words: &mut [u32],
+    count: u32,
+    line_count: u32,
+    list: &[u32],
+    places: &[u32; 512],
+    lines: &[u32; 768],
+)
+    requires { ⌜ (length (now words) ≡ 2824) × (length (now list) ≡ 1536) ⌝ }
+    ensures { λ _. ⌜ now (words .exit) ≡ headOf (now (words .entry)) count «line_count» ++ (now (list .entry) ++ (now (places .entry) ++ now (lines .entry))) ⌝ }
+{
+    put_head(words, count, line_count);
+    copy_in(words, 8, list);
+    copy_in(words, 1544, places);
+    copy_in(words, 2056, lines);
+}

@@ -1,0 +1,73 @@
+/* Gelumbrio: a Japanese line composer on a shared sheet of 32-bit words.
+ *
+ * A sheet is P slots of GELUMBRIO_SLOT_WORDS words each, P from 1 to 64. A slot holds, in order:
+ *   head, 8 words: clinic, measure, indent, record count, line count, three zeros;
+ *   256 records of 6 words: code point, class, size, advance, group, ruby count;
+ *   256 places of 2 words: x, line number;
+ *   256 lines of 3 words: first record, end x, kind (1 flush, 2 short, 3 final).
+ *
+ * Every call takes any words, numbers and lengths, and ends. A refused call changes no word of the sheet. Each slice
+ * passes as a pointer, then its length in words; the sheet overlaps no other slice of its call, and nobody else writes to
+ * it meanwhile. Link with libgelumbrio.a (`rt staticlib gelumbrio`).
+ */
+#ifndef GELUMBRIO_H
+#define GELUMBRIO_H
+
+#include <stddef.h>
+#include <stdint.h>
+
+#ifdef __cplusplus
+extern "C" {
+#endif
+
+enum { GELUMBRIO_SLOT_WORDS = 2824, GELUMBRIO_RECORD_WORDS = 6, GELUMBRIO_MOST_SLOTS = 64 };
+
+/* Two kinds of number: a clinic's and a slot's cannot be exchanged. */
+typedef struct Clinic { uint32_t number; } Clinic;         /* 1 to 65,535; 0 is unassigned */
+typedef struct SlotNumber { uint32_t number; } SlotNumber; /* from 0 */
+
+/* The answers, in the order they are checked. The place is that of the answer:
+ *   0  accepted                                                       the line count (set-up: P)
+ *   1  the sheet's length is not 2,824 P for a P from 1 to 64,
+ *      or a set-up list is not P long                                 0
+ *   2  the slot number is P or more                                   0
+ *   3  the caller is 0, or is not the slot's clinic                   0
+ *   4  the slot's measure or indent is out of limits, its count is
+ *      over 256, or its stored records fall under 8, 9 or 10          0
+ *   5  the place exceeds the count, or the deletion passes the end    the count
+ *   6  the inserted words are not a multiple of 6                     0
+ *   7  more than 256 records would result                             0
+ *   8  a resulting record breaks its own rules                        the first such record
+ *   9  a group rule is broken                                         the first such record
+ *  10  no breaking exists                                             the first record of the first run that is too wide
+ *  11  set-up: a clinic, measure or indent out of limits              the first such slot
+ * Read's number is 0, 1, 2 or 3, then 4 where the stored line count exceeds 256. Ruby place's is 0 or 8. */
+typedef struct Answer { uint32_t number, place; } Answer;
+typedef struct RubyPlace { uint32_t number, offset; } RubyPlace;
+
+/* A part of the sheet, in words; 0, 0 where the read is refused. */
+typedef struct Part { size_t start, length; } Part;
+
+/* Empties every slot and gives slot i clinics[i], measures[i], indents[i]. */
+Answer gelumbrio_set_up(uint32_t *sheet, size_t sheet_length, const uint32_t *clinics, size_t clinics_length,
+                        const uint32_t *measures, size_t measures_length, const uint32_t *indents,
+                        size_t indents_length);
+
+/* Takes `deleted` records out at `place`, puts the inserted ones in there, and composes the slot anew. */
+Answer gelumbrio_edit(uint32_t *sheet, size_t sheet_length, Clinic caller, SlotNumber slot, uint32_t place,
+                      uint32_t deleted, const uint32_t *inserted, size_t inserted_length);
+
+/* The number of a read, so that an empty slot and a refusal can be told apart. */
+uint32_t gelumbrio_read_number(const uint32_t *sheet, size_t sheet_length, Clinic caller, SlotNumber slot);
+
+/* Where in the sheet the slot's used line words stand. */
+Part gelumbrio_read(const uint32_t *sheet, size_t sheet_length, Clinic caller, SlotNumber slot);
+
+/* The offset of ruby character k from the start of a group of this base advance, ruby count and size. */
+RubyPlace gelumbrio_ruby_place(uint32_t base_advance, uint32_t ruby_count, uint32_t size, uint32_t k);
+
+#ifdef __cplusplus
+}
+#endif
+
+#endif
