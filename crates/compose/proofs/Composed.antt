@@ -1,17 +1,16 @@
 -- A line composed from its sums, amounts and places, as `compose_line` does it. Assumes nothing.
-use mathlib.Core.Path.{_≡_, refl, ap, sym, _∙_}
-use Prim.Native.Nat.{ℕ, _+_, _*_, _-_, _≤_, _<_}
+use mathlib.Core.Path.{_≡_, ap, _∙_}
+use Prim.Native.Nat.{ℕ, _+_, _*_, _-_, _≤_}
 use native.Mathlib.Omega.{arith}
 use mathlib.Core.Bool.{Bool, true, false, cond}
 use mathlib.Core.List.{List, [], _∷_}
 use lib.Seq.{paste}
-use Rattle.rules.specs.Basics.{whole}
 use Rattle.rules.specs.Breaks.{Gap}
-use Rattle.rules.specs.Adjustment.{Amounts, unitAdvances, natural, amounts, amountsOf, kindOf, lineOf}
+use Rattle.rules.specs.Adjustment.{Amounts, natural, amounts, amountsOf, kindOf, lineOf}
 use Rattle.rules.specs.Values.{gapFrom}
 use Rattle.rules.proofs.Ends.{taken}
 use Rattle.compose.specs.Lines.{lineAt}
-use Rattle.compose.specs.Adjusted.{gapsOf, SumsOf, LineToPlace, LinePlaced, LineToCompose, LineComposed}
+use Rattle.compose.specs.Adjusted.{SumsOf, LineToPlace, LinePlaced, LineToCompose, LineComposed}
 use Rattle.compose.specs.declared.places.Sums.{Sums}
 
 at-most : (b : Bool) (n : ℕ) → cond b 0 n ≤ n
@@ -22,7 +21,8 @@ at-most false n = omega arith
 abbrev naturalBy : ℕ → Sums → ℕ
 naturalBy x r = x + r .advances + r .gaps .space
 
-module _ {ws us gs places lines : List ℕ} {i j k m x : ℕ} (p : LineToCompose ws us gs places lines i j k m x) (last : Bool) {r : Sums} {e : Amounts}
+module _ {ws us gs places lines : List ℕ} {i j k m x : ℕ} (p : LineToCompose ws us gs places lines i j k m x)
+    (last : Bool) {r : Sums} {e : Amounts}
     (s : SumsOf (lineAt ws i j) r)
     (d : e ≡ amounts (naturalBy x r - m) (cond last 0 (m - naturalBy x r)) (gapFrom (r .gaps))) where
   amounts-are : e ≡ amountsOf m x last (lineAt ws i j)
@@ -49,7 +49,8 @@ module _ {ws us gs places lines : List ℕ} {i j k m x : ℕ} (p : LineToCompose
         room = p .place-room;
       }
 
-  pub line-composed : {after words : List ℕ} {end kind : ℕ} → LinePlaced ws places after i j k x e (gapFrom (r .gaps)) end →
+  pub line-composed : {after words : List ℕ} {end kind : ℕ} →
+      LinePlaced ws places after i j k x e (gapFrom (r .gaps)) end →
       kind ≡ kindOf last e (gapFrom (r .gaps)) → words ≡ paste lines (3 * k) (i ∷ end ∷ kind ∷ []) 3 →
       LineComposed ws places lines after words i j k m x last
   unfolding lineOf

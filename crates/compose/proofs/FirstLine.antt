@@ -1,11 +1,11 @@
 -- The first of some lines: its records, the record after it, and its words. Assumes nothing.
 use mathlib.Core.Path.{_≡_, refl, ap, sym, _∙_}
-use Prim.Native.Nat.{ℕ, _+_, _*_, _≤_, _<_}
+use Prim.Native.Nat.{ℕ, _+_, _≤_, _<_}
 use native.Mathlib.Omega.{arith}
 use native.Mathlib.Numerals.{add-one}
 use mathlib.Core.Bool.{cond}
 use mathlib.Core.List.{List, [], _∷_, _++_}
-use mathlib.Core.Logic.{_⊎_, inl, inr}
+use mathlib.Core.Logic.{inl, inr}
 use lib.Dec.{eqb}
 use lib.ListN.{length, take, drop, getD}
 use lib.Seq.{getD-drop, getD-take, drop-drop}
@@ -15,7 +15,7 @@ use Rattle.rules.specs.Groups.{TextUnit, counts}
 use Rattle.rules.specs.Breaks.{width}
 use Rattle.rules.specs.Adjustment.{isEmpty, lineOf, linesOf}
 use Rattle.rules.specs.Sheet.{placesOf, placeWords, lineWords}
-use Rattle.rules.specs.Meanings.{Fits, fits-none, fits-more}
+use Rattle.rules.specs.Meanings.{Fits, fits-more}
 use Rattle.rules.proofs.Facts.{ordered, nil-cons}
 use Rattle.compose.specs.Paragraph.{size, from}
 use Rattle.compose.specs.Lines.{firsts, lineAt}

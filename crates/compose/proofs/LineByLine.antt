@@ -1,16 +1,16 @@
 -- The lines of a paragraph, one after the other, as `place_lines` composes them. Assumes nothing.
-use mathlib.Core.Path.{_≡_, refl, ap, _∙_}
+use mathlib.Core.Path.{_≡_, refl, _∙_}
 use Prim.Native.Nat.{ℕ, _+_, _*_, _-_, _≤_, _<_}
 use native.Mathlib.Omega.{arith}
 use native.Mathlib.Nat.{sub-zero}
 use mathlib.Core.Bool.{cond}
-use mathlib.Core.List.{List, [], _∷_, _++_}
+use mathlib.Core.List.{List, [], _∷_}
 use lib.Dec.{eqb}
 use lib.ListN.{length, take, drop, getD}
 use lib.Seq.{paste}
-use Rattle.rules.specs.Basics.{Run, whole, joined}
+use Rattle.rules.specs.Basics.{Run, joined}
 use Rattle.rules.specs.Groups.{TextUnit, units}
-use Rattle.rules.specs.Adjustment.{Line, isEmpty, lineOf, linesOf, compose}
+use Rattle.rules.specs.Adjustment.{isEmpty, lineOf, linesOf, compose}
 use Rattle.rules.specs.Sheet.{placesOf, placeWords, lineWords}
 use Rattle.rules.specs.Meanings.{Fits}
 use Rattle.rules.proofs.Breaking.{breaking-choice, lines-fit}
@@ -23,7 +23,8 @@ use Rattle.compose.proofs.FirstLine.{from-none, lines-few, FirstLine, f
 use Rattle.compose.proofs.FirstLine.{fits-first, fits-rest, places-first, words-first, drop-next}
 
 -- k lines are composed, up to record i; `left` are still to come, the first of them from `start` on
-pub record LinesToCome (ws starts places₀ lines₀ : List ℕ) (count m x : ℕ) (places lines : List ℕ) (k i start : ℕ) : Type 0 where
+pub record LinesToCome (ws starts places₀ lines₀ : List ℕ) (count m x : ℕ) (places lines : List ℕ) (k i start : ℕ)
+    : Type 0 where
   pub left : List (Run TextUnit)
   pub number : k + length left ≡ count
   pub first-records : drop k (take count starts) ≡ firsts i left
@@ -123,7 +124,8 @@ module _ {ws us gs starts places₀ lines₀ : List ℕ} {count m x : ℕ}
           let z = here in
           let n = rw (parts .2) at (q .number) in
           let v = lineOf m start (isEmpty ls) l in
-          let places-are : after ≡ paste places (2 * i) (placesOf k (v .xs)) (2 * (j - i)) = rw (← same-line) (d .place-words) in
+          let places-are : after ≡ paste places (2 * i) (placesOf k (v .xs)) (2 * (j - i)) =
+          rw (← same-line) (d .place-words) in
           let words-are : words ≡ paste lines (3 * k) (wordsOf i v) 3 = rw (← same-line) (d .line-words) in
           record {
             left = ls;

@@ -23,8 +23,8 @@ use Rattle.compose.proofs.Pastes.{Pasting, paste-start, paste-length, p
 use Rattle.compose.proofs.PlaceWords.{length-places, places-append, length-unit}
 
 -- the units before record a are placed; the next starts at `at`, after gaps that add up to s, with floors f
-pub record LinePlacing (ws places₀ : List ℕ) (i j line x : ℕ) (e : Amounts) (c : Gap) (places : List ℕ) (a at : ℕ) (s : Gap)
-    (f : Amounts) : Type 0 where
+pub record LinePlacing (ws places₀ : List ℕ) (i j line x : ℕ) (e : Amounts) (c : Gap) (places : List ℕ) (a at : ℕ)
+    (s : Gap) (f : Amounts) : Type 0 where
   pub low : i ≤ a
   pub within : a < j
   pub ends : a + counts (unitAt ws a ∷ lineAt ws a j .rest) ≡ j
@@ -152,7 +152,8 @@ module _ {ws us gs places₀ : List ℕ} {i j line x : ℕ} {e : Amounts} {c : G
               (floors-between e c s g (p .shrink₁) (p .shrink₂) (p .stretch₁) (p .stretch₂) (rw b at turn-part)
               bounds-here)
 
-          pub line-more : {after : List ℕ} {d k : ℕ} → after ≡ withUnit ws places a line at → d ≡ getD us (3 * a + 2) 0 →
+          pub line-more : {after : List ℕ} {d k : ℕ} →
+              after ≡ withUnit ws places a line at → d ≡ getD us (3 * a + 2) 0 →
               k ≡ spaceBetween (g .space) f w → LinePlacing ws places₀ i j line x e c after n (at + d + k) t w
           unfolding placed ending counts
           line-more {after} {d} {k} m y z =

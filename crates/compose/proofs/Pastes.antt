@@ -1,12 +1,12 @@
 -- Words written one after the other over those of a list, from an offset on. Assumes nothing.
 use mathlib.Core.Path.{_≡_, refl, ap, sym, _∙_}
-use Prim.Native.Nat.{ℕ, zero, suc, _+_, _-_, _≤_, _<_}
+use Prim.Native.Nat.{ℕ, suc, _+_, _≤_, _<_}
 use native.Mathlib.Omega.{arith}
-use native.Mathlib.Nat.{add-assoc}
 use native.Mathlib.Numerals.{add-one}
 use mathlib.Core.List.{List, [], _∷_, _++_, append-assoc}
 use lib.ListN.{length, take, drop, set, length-append, length-drop}
-use lib.Seq.{take-all, take-at, drop-at, take-add, drop-drop, set-split, append-snoc, paste, paste-zero, take-paste, drop-paste, length-paste}
+use lib.Seq.{take-all, take-at, drop-at, take-add, drop-drop, set-split, append-snoc}
+use lib.Seq.{paste, paste-zero, take-paste, drop-paste, length-paste}
 
 -- the first m words of ps stand over those of d from `off` on, which gives qs; `left` of ps is still to be written
 pub record Pasting (d : List ℕ) (off : ℕ) (ps : List ℕ) (m : ℕ) (left qs : List ℕ) : Type 0 where
@@ -17,7 +17,8 @@ pub record Pasting (d : List ℕ) (off : ℕ) (ps : List ℕ) (m : ℕ) (left qs
 pub paste-start : (d : List ℕ) (off : ℕ) (ps : List ℕ) → Pasting d off ps 0 ps d
 paste-start d off ps = record { is = paste-zero d off ps; rest = refl; short = omega arith }
 
-pub paste-length : {d ps left qs : List ℕ} {off m : ℕ} → Pasting d off ps m left qs → off + m ≤ length d → length qs ≡ length d
+pub paste-length : {d ps left qs : List ℕ} {off m : ℕ} → Pasting d off ps m left qs → off + m ≤ length d →
+    length qs ≡ length d
 paste-length {d} {ps} {left} {qs} {off} {m} p h = ap length (p .is) ∙ length-paste d off ps m h (p .short)
 
 -- n words more, from where the last ones end
@@ -25,9 +26,10 @@ pub paste-more : {d ps qs rs : List ℕ} {off m : ℕ} (ws left : List ℕ) (n i
     length ws ≡ n → i ≡ off + m → k ≡ m + n → off ≤ length d → rs ≡ paste qs i ws n → Pasting d off ps k left rs
 paste-more {d} {ps} {qs} {rs} {off} {m} ws left n i k p e f g h s =
     let here : take i qs ≡ take off d ++ take m ps = rw (f, p .is) (take-paste d off ps m h (p .short)) in
-    let after : drop (i + n) qs ≡ drop (off + k) d =
     let j : off + k ≡ off + m + n = omega arith in
-    rw (f, p .is, j, ← (drop-drop n (off + m) d), ← (drop-drop n (off + m) (paste d off ps m))) (ap (λ l. drop n l) (drop-paste d off ps m h (p .short))) in
+    let after : drop (i + n) qs ≡ drop (off + k) d =
+    rw (f, p .is, j, ← (drop-drop n (off + m) d), ← (drop-drop n (off + m) (paste d off ps m)))
+    (ap (λ l. drop n l) (drop-paste d off ps m h (p .short))) in
     let new : take k ps ≡ take m ps ++ take n ws =
     rw (g, take-add m n ps, p .rest, take-at ws left n e, take-all n ws (omega arith)) in
     record {
@@ -41,5 +43,6 @@ pub paste-store : {d ps qs : List ℕ} {off m : ℕ} (v : ℕ) (left : List ℕ)
     i ≡ off + m → k ≡ m + 1 → off + m < length d → Pasting d off ps k left (set qs i v)
 paste-store {d} {ps} {qs} {off} {m} v left i k p f g h =
     let l : i < length qs = omega (arith, paste-length p (omega arith)) in
-    let e : set qs i v ≡ paste qs i (v ∷ []) 1 = rw (add-one i) (set-split qs i v l ∙ sym (append-snoc (take i qs) v (drop (suc i) qs))) in
+    let e : set qs i v ≡ paste qs i (v ∷ []) 1 =
+    rw (add-one i) (set-split qs i v l ∙ sym (append-snoc (take i qs) v (drop (suc i) qs))) in
     paste-more (v ∷ []) left 1 i k p refl f g (omega arith) e

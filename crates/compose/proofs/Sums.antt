@@ -1,23 +1,23 @@
 -- A line's units one after the other, and the sums over them as `line_sums` makes them. Assumes nothing.
 use mathlib.Core.Path.{_≡_, refl, ap, sym, _∙_}
-use Prim.Native.Nat.{ℕ, zero, suc, _+_, _*_, _-_, _≤_, _<_}
+use Prim.Native.Nat.{ℕ, _+_, _*_, _≤_, _<_}
 use native.Mathlib.Omega.{arith}
 use native.Mathlib.Nat.{add-assoc, add-zero, zero-add}
 use mathlib.Core.List.{List, [], _∷_}
 use lib.ListN.{getD}
-use Rattle.rules.specs.Basics.{Run, whole}
-use Rattle.rules.specs.Groups.{TextUnit, count, counts, advance}
+use Rattle.rules.specs.Basics.{whole}
+use Rattle.rules.specs.Groups.{advance}
 use Rattle.rules.specs.Breaks.{Gap, gap}
 use Rattle.rules.specs.Adjustment.{plus, nothing, totals, unitAdvances}
 use Rattle.rules.specs.Values.{gapFrom}
 use Rattle.rules.proofs.Limits.{GapBounds}
-use Rattle.compose.specs.Paragraph.{size, unitAt, nextAt, gapAfter}
+use Rattle.compose.specs.Paragraph.{size, unitAt, nextAt}
 use Rattle.compose.specs.Tables.{gapIn}
 use Rattle.compose.specs.Lines.{lineAt, Tabled}
-use Rattle.compose.specs.Adjusted.{gapsOf, SumsOf, Within, PartOf}
+use Rattle.compose.specs.Adjusted.{gapsOf, LineToSum, SumsOf, Within, PartOf}
 use Rattle.compose.specs.declared.places.Sums.{Sums}
-use Rattle.compose.proofs.Walk.{unit-step, gap-is}
-use Rattle.compose.proofs.Limits.{unit-records, unit-advance, gap-limits}
+use Rattle.compose.proofs.Walk.{gap-is}
+use Rattle.compose.proofs.Limits.{unit-advance, gap-limits}
 use Rattle.compose.proofs.Stretches.{line-more, line-last}
 
 -- sums of gaps ---------------------------------------------------------------------------------------------------
@@ -73,49 +73,75 @@ pub record Summing (ws : List ℕ) (i j advances : ℕ) (total : Gap) (a next : 
   pub advances-limit : advances ≤ 128000 * (a + 1)
   pub limit : Within (4000 * a) total
 
-module _ {ws us gs : List ℕ} {i j : ℕ} (t : Tabled ws us gs) (k : j ≤ size ws) where
-  pub sum-start : i < j → Summing ws i j (getD us (3 * i + 2) 0) nothing i (i + getD us (3 * i) 0)
+module _ {ws us gs : List ℕ} {i j : ℕ} (p : LineToSum ws us gs i j) where
+  tabled : Tabled ws us gs
+  tabled = p .tabled
+
+  pub sum-start : Summing ws i j (getD us (3 * i + 2) 0) nothing i (i + getD us (3 * i) 0)
   unfolding unitAdvances
-  sum-start h =
-      let u = t .units i (omega arith) in
+  sum-start =
+      let h : i < size ws = omega (arith, p .some, p .within) in
+      let u = tabled .units i h in
       record {
         next-is = rw (u .records);
-        within = h;
+        within = p .some;
         all-advances = rw (u .advance, line-first);
         all-gaps = rw line-first (nothing-plus _);
-        advances-limit = omega (arith, advance-limit t i (omega arith));
+        advances-limit = omega (arith, advance-limit tabled i h);
         limit = omega arith;
       }
 
-  pub sum-more : {advances : ℕ} {total : Gap} {a next : ℕ} → Summing ws i j advances total a next → next < j →
-      Summing ws i j (advances + getD us (3 * next + 2) 0) (plus total (gapIn gs a)) next (next + getD us (3 * next) 0)
-  unfolding unitAdvances totals
-  sum-more {advances} {total} {a} {next} s h =
-      let n = s .next-is in
-      let u = t .units next (omega arith) in
-      let b = gap-bounds t a (omega (arith, s .within)) (omega arith) in
-      let r : lineAt ws a j .rest ≡ unitAt ws next ∷ lineAt ws next j .rest = rw n (after-more ws a j (omega arith) k) in
-      let g : gapIn gs a ≡ gap (unitAt ws a) (unitAt ws next) = rw n (gap-row t a (omega (arith, s .within)) (omega arith)) in
-      record {
-        next-is = rw (u .records);
-        within = h;
-        all-advances = rw (u .advance, add-assoc) (rw r at (s .all-advances));
-        all-gaps =
-            plus-assoc total (gapIn gs a) (totals (unitAt ws next) (lineAt ws next j .rest))
-            ∙ ap (λ e. plus total (plus e (totals (unitAt ws next) (lineAt ws next j .rest)))) g
-            ∙ (rw r at (s .all-gaps));
-        advances-limit = omega (arith, advance-limit t next (omega arith), s .advances-limit);
-        limit = omega (arith, s .limit);
-      }
+  module _ {advances : ℕ} {total : Gap} {a next : ℕ} (s : Summing ws i j advances total a next) where
+    pub sum-last : {r : Sums} → r .advances ≡ advances → gapFrom (r .gaps) ≡ total → j ≤ next → SumsOf (lineAt ws i j) r
+    unfolding unitAdvances totals
+    sum-last e f h =
+        let l : lineAt ws a j .rest ≡ [] = line-last ws a j (omega (arith, s .next-is)) in
+        let n : a < 256 = omega (arith, s .within, p .within, tabled .checked .few) in
+        record {
+          advances = e ∙ (rw (l, add-zero) at (s .all-advances));
+          gaps = f ∙ sym (plus-nothing total) ∙ (rw l at (s .all-gaps));
+          advances-limit = omega (arith, s .advances-limit);
+          space-limit = omega (arith, ap (λ g. g .space) f, s .limit .space);
+        }
 
-  pub sum-last : {advances : ℕ} {total : Gap} {a next : ℕ} {r : Sums} → Summing ws i j advances total a next → j ≤ next →
-      r .advances ≡ advances → gapFrom (r .gaps) ≡ total → SumsOf (lineAt ws i j) r
-  unfolding unitAdvances totals
-  sum-last {total = total} {a = a} s h e f =
-      let l : lineAt ws a j .rest ≡ [] = line-last ws a j (omega (arith, s .next-is)) in
-      record {
-        advances = e ∙ (rw (l, add-zero) at (s .all-advances));
-        gaps = f ∙ sym (plus-nothing total) ∙ (rw l at (s .all-gaps));
-        advances-limit = omega (arith, e, s .advances-limit, s .within, t .checked .few);
-        space-limit = omega (arith, ap (λ g. g .space) f, s .limit .space, s .within);
-      }
+    module _ (h : next < j) where
+      inside : a < size ws
+      inside = omega (arith, s .within, p .within)
+
+      next-inside : next < size ws
+      next-inside = omega (arith, p .within)
+
+      gap-limits-here : GapBounds (gapIn gs a)
+      gap-limits-here = gap-bounds tabled a inside (rw (s .next-is) at next-inside)
+
+      pub sum-limits : Within 1024000 total × Within 4000 (gapIn gs a)
+      sum-limits =
+          let b = gap-limits-here in
+          let l = s .limit in
+          let n = inside in
+          (omega (arith, tabled .checked .few), omega arith)
+
+      pub sum-fits : advances + getD us (3 * next + 2) 0 ≤ 128000 * (next + 1)
+      sum-fits = omega (arith, advance-limit tabled next next-inside, s .advances-limit, s .next-is)
+
+      pub sum-more : {g t : Gap} {d n : ℕ} → g ≡ gapIn gs a → t ≡ plus total g → d ≡ getD us (3 * next + 2) 0 →
+          n ≡ next + getD us (3 * next) 0 → Summing ws i j (advances + d) t next n
+      unfolding unitAdvances totals
+      sum-more {g} {t} b f d n =
+          let u = tabled .units next next-inside in
+          let v = unitAt ws next in
+          let vs = lineAt ws next j .rest in
+          let n₁ = s .next-is in
+          let r : lineAt ws a j .rest ≡ v ∷ vs = rw n₁ (after-more ws a j (omega arith) (p .within)) in
+          let e : g ≡ gap (unitAt ws a) v = b ∙ rw n₁ (gap-row tabled a inside (rw n₁ at next-inside)) in
+          record {
+            next-is = n ∙ rw (u .records);
+            within = h;
+            all-advances = rw (d, u .advance, add-assoc) (rw r at (s .all-advances));
+            all-gaps =
+                ap (λ k. plus k (totals v vs)) f ∙ plus-assoc total g (totals v vs)
+                ∙ ap (λ k. plus total (plus k (totals v vs))) e
+                ∙ (rw r at (s .all-gaps));
+            advances-limit = rw d sum-fits;
+            limit = rw (f, b) (let l = s .limit in let k = gap-limits-here in omega (arith, s .next-is));
+          }

@@ -4,7 +4,7 @@
 --   floors       of the amounts, up to gaps that add up to S: floor(E·S/C) at each stage
 --   sums         what a line's advances and gaps add up to
 --
--- The limits are far above what a paragraph of 256 records comes to. They keep every sum within 32 bits.
+-- The limits are what 256 records and a measure can come to, or more. They keep every sum within 32 bits.
 -- Assumes nothing.
 use mathlib.Core.Path.{_≡_}
 use Prim.Native.Nat.{ℕ, _+_, _*_, _-_, _/_, _≤_, _<_}
@@ -30,7 +30,13 @@ amountsFrom e = record { shrink₁ = e .shrink1; shrink₂ = e .shrink2; stretch
 abbrev pub gapsOf : Run TextUnit → Gap
 gapsOf l = totals (l .first) (l .rest)
 
--- what a line's advances and gaps add up to; the advances stay below 256 times 128,000
+-- the records from i up to j, which are those of a line or start one
+pub record LineToSum (ws us gs : List ℕ) (i j : ℕ) : Type 0 where
+  pub tabled : Tabled ws us gs
+  pub some : i < j
+  pub within : j ≤ size ws
+
+-- what a line's advances and gaps add up to: at most 128,000 and 4,000 for each of 256 records
 pub record SumsOf (l : Run TextUnit) (r : Sums) : Type 0 where
   pub advances : r .advances ≡ unitAdvances (whole l)
   pub gaps : gapFrom (r .gaps) ≡ gapsOf l
@@ -62,7 +68,7 @@ floors e c s =
       stretch₂ = e .stretch₂ * s .stretch₂ / c .stretch₂;
     }
 
--- a gap's space once adjusted, by the floors before it, f, and with it, t
+-- a gap's space once adjusted, by the floors before it, f, and after it, t
 abbrev pub spaceBetween : ℕ → Amounts → Amounts → ℕ
 spaceBetween space f t =
     (space - (t .shrink₁ - f .shrink₁) - (t .shrink₂ - f .shrink₂)) + (t .stretch₁ - f .stretch₁)

@@ -8,12 +8,11 @@ ghost use lib.ListN.{length, getD};
 ghost use lib.Seq.{paste};
 ghost use Rattle.rules.specs.Adjustment.{amounts, kindOf, plus, nothing};
 ghost use Rattle.rules.specs.Values.{gapFrom};
-ghost use Rattle.compose.specs.Paragraph.{size as sizeOf};
 ghost use Rattle.compose.specs.Tables.{gapIn};
-ghost use Rattle.compose.specs.Lines.{lineAt, Tabled, Composable, Written};
-ghost use Rattle.compose.specs.Adjusted.{amountsFrom, SumsOf, Within, PartOf, floors, spaceBetween, Between};
-ghost use Rattle.compose.specs.Adjusted.{withUnit, UnitToPlace, LineToPlace, LinePlaced};
-ghost use Rattle.compose.specs.Adjusted.{LineToCompose, LineComposed};
+ghost use Rattle.compose.specs.Lines.{lineAt, Composable, Written};
+ghost use Rattle.compose.specs.Adjusted.{amountsFrom, LineToSum, SumsOf, Within, PartOf, floors};
+ghost use Rattle.compose.specs.Adjusted.{spaceBetween, Between, withUnit, UnitToPlace};
+ghost use Rattle.compose.specs.Adjusted.{LineToPlace, LinePlaced, LineToCompose, LineComposed};
 use crate::checks::record_at;
 use rules::Gap;
 use rules::base_offset;
@@ -98,8 +97,7 @@ fn added(s: Gap, g: Gap) -> Gap
 
 // The sums of the line of the records from `i` up to `j`.
 fn line_sums(ws: &[u32], units: &[u32; 768], gaps: &[u32; 1280], i: usize, j: usize) -> Sums
-    requires { ⌜ Tabled (now ws) (now units) (now gaps) ⌝ }
-    requires { ⌜ (i < j) × (j ≤ sizeOf (now ws)) ⌝ }
+    requires { ⌜ LineToSum (now ws) (now units) (now gaps) i j ⌝ }
     ensures { λ r. ⌜ SumsOf (lineAt (now (ws .entry)) i j) r ⌝ }
 {
     let mut advances = unit_advance(units, i);

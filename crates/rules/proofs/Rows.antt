@@ -1,7 +1,7 @@
 -- Class numbers and their rows: the table below 28, the numbers past it, and that a class is a number with a row.
 -- Assumes nothing.
-use mathlib.Core.Path.{_≡_, refl, sym}
-use Prim.Native.Nat.{ℕ, suc, _≤_, _<_}
+use mathlib.Core.Path.{_≡_, refl, sym, ap, _∙_}
+use Prim.Native.Nat.{ℕ, zero, suc, _+_, _*_, _/_, _%_, _≤_, _<_}
 use native.Mathlib.Omega.{arith}
 use mathlib.Core.Bool.{Bool, true, false, cond, _&&_, _||_, and-eq-true-iff}
 use mathlib.Core.List.{List, [], _∷_}
@@ -11,32 +11,43 @@ use borrow.Author.Tests.{ne-eqb, ltb-true, lt-ltb}
 use Rattle.rules.specs.Basics.{isIn}
 use Rattle.rules.specs.Records.{classes, classOk, placeIn, rowOf, advanceKind}
 use Rattle.rules.specs.Records.{AdvanceKind, half-size, to-size, to-twice, full-size}
-use Rattle.rules.specs.Values.{kindFrom, Classed}
-use Rattle.rules.specs.declared.records.ClassRow.{ClassRow}
-use Rattle.rules.specs.declared.records.AdvanceKind.{AdvanceKind as KindValue}
-use Rattle.rules.specs.declared.records.AdvanceKind.the-variants.{HalfSize, ToSize, ToTwice, FullSize}
+use Rattle.rules.specs.Values.{kindNumber, kindNumbered}
 use Rattle.rules.proofs.Table.{tabled, tabled-at}
 
--- a kind of advance as the program has it
-abbrev kindTo : AdvanceKind → KindValue
-kindTo half-size = HalfSize
-kindTo to-size = ToSize
-kindTo to-twice = ToTwice
-kindTo full-size = FullSize
+-- a kind of advance and its number
+number-kept : (k : AdvanceKind) → kindNumbered (kindNumber k) ≡ k
+number-kept half-size = refl
+number-kept to-size = refl
+number-kept to-twice = refl
+number-kept full-size = refl
 
-kind-kept : (k : AdvanceKind) → kindFrom (kindTo k) ≡ k
-kind-kept half-size = refl
-kind-kept to-size = refl
-kind-kept to-twice = refl
-kind-kept full-size = refl
+number-small : (k : AdvanceKind) → kindNumber k < 4
+number-small half-size = omega arith
+number-small to-size = omega arith
+number-small to-twice = omega arith
+number-small full-size = omega arith
 
--- the row of a class number as the program has it
-abbrev rowTo : ℕ → ClassRow
-rowTo c = record { row = rowOf c; kind = kindTo (advanceKind c) }
+pub numbered-past : (n : ℕ) → (n ≡ 0 → ⊥) → (n ≡ 1 → ⊥) → (n ≡ 2 → ⊥) → kindNumbered n ≡ full-size
+numbered-past zero a b c = absurd (a refl)
+numbered-past (suc zero) a b c = absurd (b refl)
+numbered-past (suc (suc zero)) a b c = absurd (c refl)
+numbered-past (suc (suc (suc n))) a b c = refl
 
--- the table of these rows
-pub rows-at : (d : ClassRow) (c : ℕ) → c < 28 → Classed c (getD (tabled rowTo 0 28) c d)
-rows-at d c h = rw (tabled-at rowTo d 28 c h) (record { row = refl; kind = kind-kept (advanceKind c) })
+-- the table's entry for a class number: four times the row, and the number of the kind
+abbrev pub entryOf : ℕ → ℕ
+entryOf c = 4 * rowOf c + kindNumber (advanceKind c)
+
+pub entry-at : (c : ℕ) → c < 28 → getD (tabled entryOf 0 28) c 0 ≡ entryOf c
+entry-at c h = tabled-at entryOf 0 28 c h
+
+-- what is read off an entry
+pub entry-row : (c : ℕ) → entryOf c / 4 ≡ rowOf c
+entry-row c = omega (arith, number-small (advanceKind c))
+
+pub entry-kind : (c : ℕ) → kindNumbered (entryOf c % 4) ≡ advanceKind c
+entry-kind c =
+    let e : entryOf c % 4 ≡ kindNumber (advanceKind c) = omega (arith, number-small (advanceKind c)) in
+    ap (λ n. kindNumbered n) e ∙ number-kept (advanceKind c)
 
 -- each number of a list is below b
 abbrev below : ℕ → List ℕ → Bool
@@ -53,17 +64,15 @@ below-past b c h (k ∷ ks) e =
     let other : eqb c k ≡ false = ne-eqb c k (λ q. omega (arith, ltb-true k b (both .0))) in
     (rw (other, rest .0), rw (other, rest .1))
 
-pub rows-past : (c : ℕ) → 28 ≤ c → Classed c (record { row = 18; kind = FullSize })
+pub entry-past : (c : ℕ) → 28 ≤ c → 75 ≡ entryOf c
 unfolding rowOf classes advanceKind
-rows-past c h =
-    record {
-      row = sym (below-past 28 c h classes refl .1);
-      kind = rw (
-        below-past 28 c h (1 ∷ 2 ∷ 5 ∷ 6 ∷ 7 ∷ []) refl .0,
-        ne-eqb c 3 (λ q. omega arith),
-        ne-eqb c 27 (λ q. omega arith),
-      );
-    }
+entry-past c h =
+    rw (
+      below-past 28 c h classes refl .1,
+      below-past 28 c h (1 ∷ 2 ∷ 5 ∷ 6 ∷ 7 ∷ []) refl .0,
+      ne-eqb c 3 (λ q. omega arith),
+      ne-eqb c 27 (λ q. omega arith),
+    )
 
 -- a number is in a list where its place there is below the list's length
 placeIn-below : (c : ℕ) (ks : List ℕ) → isIn c ks ≡ ltb (placeIn c ks) (length ks)

@@ -8,7 +8,7 @@
 --
 -- Assumes nothing.
 use mathlib.Core.Path.{_≡_}
-use Prim.Native.Nat.{ℕ, _≤_, _<_}
+use Prim.Native.Nat.{ℕ, zero, suc, _≤_, _<_}
 use mathlib.Core.Bool.{Bool}
 use mathlib.Core.List.{List, [], _∷_}
 use Rattle.rules.specs.Records.{Rec, recOf, rowOf, advanceKind}
@@ -35,6 +35,19 @@ kindFrom HalfSize = half-size
 kindFrom ToSize = to-size
 kindFrom ToTwice = to-twice
 kindFrom FullSize = full-size
+
+-- the kinds of advance by number, as the class table has them
+abbrev pub kindNumber : AdvanceKind → ℕ
+kindNumber half-size = 0
+kindNumber to-size = 1
+kindNumber to-twice = 2
+kindNumber full-size = 3
+
+abbrev pub kindNumbered : ℕ → AdvanceKind
+kindNumbered zero = half-size
+kindNumbered (suc zero) = to-size
+kindNumbered (suc (suc zero)) = to-twice
+kindNumbered (suc (suc (suc n))) = full-size
 
 pub record Classed (c : ℕ) (answer : ClassRow) : Type 0 where
   pub row : answer .row ≡ rowOf c

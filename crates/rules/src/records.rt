@@ -1,7 +1,7 @@
 // "Records and groups": a record and its own rules.
 ghost use mathlib.Core.Path.{_≡_};
 ghost use Rattle.rules.specs.Records.{codeOk, sizeOk, advanceFits, groupOk, recOk};
-ghost use Rattle.rules.specs.Values.{recordOf, kindFrom, Classed};
+ghost use Rattle.rules.specs.Values.{recordOf, kindFrom, kindNumbered, Classed};
 use crate::basics::between;
 use crate::basics::one_of3;
 
@@ -28,88 +28,43 @@ pub struct ClassRow {
     pub kind: AdvanceKind,
 }
 
-// A number that is no class.
-const NO_CLASS: ClassRow = ClassRow {
-    row: 18,
-    kind: AdvanceKind::FullSize,
-};
+// The kinds of advance by number, as the table has them.
+const HALF_SIZE: u8 = 0;
 
-const CLASSES: [ClassRow; 28] = [
+const TO_SIZE: u8 = 1;
+
+const TO_TWICE: u8 = 2;
+
+const FULL_SIZE: u8 = 3;
+
+// What the table has for a number that is no class: row 18, and the kind of most classes.
+const NO_CLASS: u8 = 4 * 18 + FULL_SIZE;
+
+// For each class number four times its row, and its kind of advance. A table of bytes, since the compiler lays a constant
+// table down anew at each use.
+const CLASSES: [u8; 28] = [
     NO_CLASS,
     // 1 to 16
-    ClassRow {
-        row: 0,
-        kind: AdvanceKind::HalfSize,
-    },
-    ClassRow {
-        row: 1,
-        kind: AdvanceKind::HalfSize,
-    },
-    ClassRow {
-        row: 2,
-        kind: AdvanceKind::ToSize,
-    },
-    ClassRow {
-        row: 3,
-        kind: AdvanceKind::FullSize,
-    },
-    ClassRow {
-        row: 4,
-        kind: AdvanceKind::HalfSize,
-    },
-    ClassRow {
-        row: 5,
-        kind: AdvanceKind::HalfSize,
-    },
-    ClassRow {
-        row: 6,
-        kind: AdvanceKind::HalfSize,
-    },
-    ClassRow {
-        row: 7,
-        kind: AdvanceKind::FullSize,
-    },
-    ClassRow {
-        row: 8,
-        kind: AdvanceKind::FullSize,
-    },
-    ClassRow {
-        row: 9,
-        kind: AdvanceKind::FullSize,
-    },
-    ClassRow {
-        row: 10,
-        kind: AdvanceKind::FullSize,
-    },
-    ClassRow {
-        row: 11,
-        kind: AdvanceKind::FullSize,
-    },
-    ClassRow {
-        row: 12,
-        kind: AdvanceKind::FullSize,
-    },
-    ClassRow {
-        row: 13,
-        kind: AdvanceKind::FullSize,
-    },
-    ClassRow {
-        row: 14,
-        kind: AdvanceKind::FullSize,
-    },
-    ClassRow {
-        row: 15,
-        kind: AdvanceKind::FullSize,
-    },
-    // 17 and 18
+    4 * 0 + HALF_SIZE,
+    4 * 1 + HALF_SIZE,
+    4 * 2 + TO_SIZE,
+    4 * 3 + FULL_SIZE,
+    4 * 4 + HALF_SIZE,
+    4 * 5 + HALF_SIZE,
+    4 * 6 + HALF_SIZE,
+    4 * 7 + FULL_SIZE,
+    4 * 8 + FULL_SIZE,
+    4 * 9 + FULL_SIZE,
+    4 * 10 + FULL_SIZE,
+    4 * 11 + FULL_SIZE,
+    4 * 12 + FULL_SIZE,
+    4 * 13 + FULL_SIZE,
+    4 * 14 + FULL_SIZE,
+    4 * 15 + FULL_SIZE,
     NO_CLASS,
     NO_CLASS,
     // 19
-    ClassRow {
-        row: 16,
-        kind: AdvanceKind::FullSize,
-    },
-    // 20 to 26
+    4 * 16 + FULL_SIZE,
     NO_CLASS,
     NO_CLASS,
     NO_CLASS,
@@ -118,20 +73,39 @@ const CLASSES: [ClassRow; 28] = [
     NO_CLASS,
     NO_CLASS,
     // 27
-    ClassRow {
-        row: 17,
-        kind: AdvanceKind::ToTwice,
-    },
+    4 * 17 + TO_TWICE,
 ];
+
+fn wide(x: u8) -> u32
+    ensures { λ r. ⌜ r ≡ x ⌝ }
+{
+    x as u32
+}
+
+// A kind of advance by its number.
+fn kind_numbered(n: u32) -> AdvanceKind
+    ensures { λ k. ⌜ kindFrom k ≡ kindNumbered n ⌝ }
+{
+    match n {
+        0 => AdvanceKind::HalfSize,
+        1 => AdvanceKind::ToSize,
+        2 => AdvanceKind::ToTwice,
+        _ => AdvanceKind::FullSize,
+    }
+}
 
 // What the table has for a class number.
 pub fn class_row(class: u32) -> ClassRow
     ensures { λ r. ⌜ Classed class r ⌝ }
 {
-    if class < 28 {
-        CLASSES[class as usize]
+    let entry = if class < 28 {
+        wide(CLASSES[class as usize])
     } else {
-        NO_CLASS
+        75
+    };
+    ClassRow {
+        row: entry / 4,
+        kind: kind_numbered(entry % 4),
     }
 }
 

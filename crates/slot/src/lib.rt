@@ -2,4 +2,5 @@
 mod edit;
 mod words;
 
+pub use compose::Answer;
 pub use edit::edit_slot;

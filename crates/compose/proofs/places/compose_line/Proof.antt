@@ -4,13 +4,6 @@ use Rattle.compose.proofs.Composed.{line-to-place, line-composed}
 use borrow.Author.Needs.{needs}
 use Rattle.compose.proofs.places.compose_line.Statement.{statement}
 use Rattle.compose.proofs.places.compose_line.Tie as tie
-use Rattle.compose.proofs.places.compose_line.Reads as reads
-use Rattle.compose.proofs.places.compose_line.Lts as lts
-use Rattle.compose.proofs.places.line_amounts.Reads as line-amounts-reads
-use Rattle.compose.proofs.places.line_kind.Reads as line-kind-reads
-use Rattle.compose.proofs.places.line_sums.Reads as line-sums-reads
-use Rattle.compose.proofs.places.place_line.Reads as place-line-reads
-use Rattle.compose.proofs.places.put_line.Reads as put-line-reads
 
 line-sums-requires : tie.Need-line-sums-requires
 line-sums-requires c κs = search needs
@@ -34,7 +27,9 @@ place-line-requires c κs =
     line-to-place (s .pre) (s .args .last) (b .line-sums .ensures) (c .before .line-amounts .ensures)
 
 cast-put-line : tie.Need-cast-put-line
-cast-put-line c = omega (arith, c .before .before .before .before .before .before .before .before .before .before .before .before .before .pre)
+cast-put-line c =
+    let d = c .before .before .before .before .before .before in
+    omega (arith, d .before .before .before .before .before .before .before .pre)
 
 line-kind-requires : tie.Need-line-kind-requires
 line-kind-requires c κs = search needs
@@ -53,8 +48,8 @@ returns c =
     let b = c .before .before .before .before .before .before .before in
     let a = b .before .before .before .before .before .before in
     let s = a .before .before .before .before in
-    line-composed (s .pre) (s .args .last) (a .line-sums .ensures) (b .before .before .line-amounts .ensures) (b .place-line .ensures)
-    (c .before .before .before .line-kind .ensures) (c .before .before .put-line .ensures)
+    line-composed (s .pre) (s .args .last) (a .line-sums .ensures) (b .before .before .line-amounts .ensures)
+    (b .place-line .ensures) (c .before .before .before .line-kind .ensures) (c .before .before .put-line .ensures)
 
 pub compose-line-spec : {M : Type 1} → statement M
 compose-line-spec =

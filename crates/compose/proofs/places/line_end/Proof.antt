@@ -1,36 +1,27 @@
+-- `compose::places::line_end` meets its contract. Assumes nothing.
 use borrow.Author.Needs.{needs}
 use borrow.Author.Tests.{eq-eqb, ne-eqb}
 use Rattle.compose.proofs.places.line_end.Statement.{statement}
 use Rattle.compose.proofs.places.line_end.Tie as tie
-use Rattle.compose.proofs.places.line_end.Reads as reads
-use Rattle.compose.proofs.places.line_end.Lts as lts
-use Rattle.compose.proofs.places.wide.Reads as wide-reads
 
--- src/places.rt:283:8
 add-if1 : tie.Need-add-if1
 add-if1 c = search needs
 
--- src/places.rt:283:51
 add-wide : tie.Need-add-wide
 add-wide c = search needs
 
--- src/places.rt:283:44
 mul-wide : tie.Need-mul-wide
 mul-wide c = search needs
 
--- src/places.rt:283:44
 element-copy-out-wide : tie.Need-element-copy-out-wide
 element-copy-out-wide c = search needs
 
--- src/places.rt:283:39
 wide-requires : tie.Need-wide-requires
 wide-requires c κs = search needs
 
--- src/places.rt:279:1
 returns : tie.Need-returns
 returns c = rw (eq-eqb _ _ (c .if1 .taken))
 
--- src/places.rt:279:1
 returns-2 : tie.Need-returns-2
 returns-2 c = rw (ne-eqb _ _ (c .before .before .if1 .left)) (c .wide .ensures .0)
 

@@ -2,8 +2,6 @@
 use Rattle.rules.specs.Adjustment.{kindOf}
 use Rattle.compose.proofs.places.line_kind.Statement.{statement}
 use Rattle.compose.proofs.places.line_kind.Tie as tie
-use Rattle.compose.proofs.places.line_kind.Reads as reads
-use Rattle.compose.proofs.places.line_kind.Lts as lts
 
 returns : tie.Need-returns
 unfolding kindOf

@@ -1,17 +1,16 @@
--- `compose::places::place_line` meets its contract: at each turn the places written, with those of the units left, are the
--- line's. Assumes nothing.
-use mathlib.Core.Path.{refl, ap, _∙_}
+-- `compose::places::place_line` meets its contract: at each turn the places written, with those of the units left, are
+-- the line's. Assumes nothing.
+use mathlib.Core.Path.{refl, _∙_}
 use Prim.Native.Nat.{_-_, _<_}
 use native.Mathlib.Omega.{arith}
 use borrow.Author.Needs.{needs}
 use Rattle.rules.specs.Values.{gapFrom}
 use Rattle.compose.specs.Adjusted.{amountsFrom}
 use Rattle.compose.proofs.Sums.{advance-limit}
-use Rattle.compose.proofs.LinePlaces.{LinePlacing, line-start, turn-length, turn-unit, turn-longer, line-done, turn-sums, turn-part, turn-between, line-more}
+use Rattle.compose.proofs.LinePlaces.{LinePlacing, line-start, line-done, line-more}
+use Rattle.compose.proofs.LinePlaces.{turn-length, turn-unit, turn-longer, turn-sums, turn-part, turn-between}
 use Rattle.compose.proofs.places.place_line.Statement.{statement}
 use Rattle.compose.proofs.places.place_line.Tie as tie
-use Rattle.compose.proofs.places.place_line.Reads as reads
-use Rattle.compose.proofs.places.place_line.Lts as lts
 
 abbrev Inv-loop : tie.InvT-loop
 Inv-loop ws units gaps i j line x e c places₀ a₀ at₀ sums₀ before₀ places a at sums before =
@@ -53,15 +52,16 @@ unit-end-requires c κs = few (c .before .before .before .before .before)
 
 same-length : tie.Need-same-length Inv-loop μ-loop
 same-length c =
-    let h = head (c .before) in
-    c .before .before .before .before .before .place-unit .kept .1 .1 .1 .1 .1 .0 ∙ turn-length (start h .pre) (h .loop .inv)
+    let d = c .before in
+    let h = head d in
+    d .before .before .before .before .place-unit .kept .1 .1 .1 .1 .1 .0 ∙ turn-length (start h .pre) (h .loop .inv)
 
 returns : tie.Need-returns Inv-loop μ-loop
 returns c =
     let d = c .before in
     let h = head d in
-    line-done (start h .pre) (h .loop .inv) (d .unit-end .ensures) (d .before .before .before .before .place-unit .ensures)
-    (d .before .unit-advance .ensures) (c .if1 .taken)
+    line-done (start h .pre) (h .loop .inv) (d .unit-end .ensures)
+    (d .before .before .before .before .place-unit .ensures) (d .before .unit-advance .ensures) (c .if1 .taken)
 
 gap-at-requires : tie.Need-gap-at-requires Inv-loop μ-loop
 gap-at-requires c κs = few (head (c .before))
@@ -76,25 +76,29 @@ floors-at-requires : tie.Need-floors-at-requires Inv-loop μ-loop
 floors-at-requires c κs =
     let d = c .before .before .before in
     let h = head d in
-    turn-part (start h .pre) (h .loop .inv) (d .unit-end .ensures) (c .before .before .if1 .left) (c .before .gap-at .ensures) (c .added .ensures)
+    turn-part (start h .pre) (h .loop .inv) (d .unit-end .ensures) (c .before .before .if1 .left)
+    (c .before .gap-at .ensures) (c .added .ensures)
 
 space-between-requires : tie.Need-space-between-requires Inv-loop μ-loop
 space-between-requires c κs =
     let d = c .before .before .before .before in
     let h = head d in
-    turn-between (start h .pre) (h .loop .inv) (d .unit-end .ensures) (c .before .before .before .if1 .left) (c .before .before .gap-at .ensures)
-    (c .before .added .ensures) (c .floors-at .ensures)
+    turn-between (start h .pre) (h .loop .inv) (d .unit-end .ensures) (c .before .before .before .if1 .left)
+    (c .before .before .gap-at .ensures) (c .before .added .ensures) (c .floors-at .ensures)
 
 loop-again : tie.Need-loop-again Inv-loop μ-loop
 loop-again c =
     let d = c .before .before .before .before .before in
     let h = head d in
-    line-more (start h .pre) (h .loop .inv) (d .unit-end .ensures) (c .before .before .before .before .if1 .left) (c .before .before .before .gap-at .ensures)
-    (c .before .before .added .ensures) (c .before .floors-at .ensures) (d .before .before .before .before .place-unit .ensures)
-    (d .before .unit-advance .ensures) (c .space-between .ensures)
+    line-more (start h .pre) (h .loop .inv) (d .unit-end .ensures) (c .before .before .before .before .if1 .left)
+    (c .before .before .before .gap-at .ensures) (c .before .before .added .ensures) (c .before .floors-at .ensures)
+    (d .before .before .before .before .place-unit .ensures) (d .before .unit-advance .ensures)
+    (c .space-between .ensures)
 
 add-at : tie.Need-add-at Inv-loop μ-loop
-add-at c = omega (arith, turn-unit (start (head (c .before .before .before .before .before)) .pre) (loop-again c) .start)
+add-at c =
+    let h = head (c .before .before .before .before .before) in
+    omega (arith, turn-unit (start h .pre) (loop-again c) .start)
 
 loop-less : tie.Need-loop-less Inv-loop μ-loop
 loop-less c =

@@ -1,13 +1,12 @@
--- `compose::places::place_lines` meets its contract: at each turn the words written, with those of the lines to come, are
--- all of them. Assumes nothing.
+-- `compose::places::place_lines` meets its contract: at each turn the words written, with those of the lines to come,
+-- are all of them. Assumes nothing.
 use Prim.Native.Nat.{_-_}
 use native.Mathlib.Omega.{arith}
 use borrow.Author.Needs.{needs}
-use Rattle.compose.proofs.LineByLine.{LinesToCome, few-lines, lines-start, places-length, lines-length, lines-done, line-to-compose, lines-more}
+use Rattle.compose.proofs.LineByLine.{LinesToCome, few-lines, lines-start, places-length, lines-length}
+use Rattle.compose.proofs.LineByLine.{lines-done, line-to-compose, lines-more}
 use Rattle.compose.proofs.places.place_lines.Statement.{statement}
 use Rattle.compose.proofs.places.place_lines.Tie as tie
-use Rattle.compose.proofs.places.place_lines.Reads as reads
-use Rattle.compose.proofs.places.place_lines.Lts as lts
 
 abbrev Inv-loop : tie.InvT-loop
 Inv-loop ws units gaps starts count m x places₀ lines₀ size k₀ i₀ start₀ places lines k i start =
@@ -45,7 +44,8 @@ loop-again c =
     let e = c .before .before .before .before in
     let d = e .before .before .before in
     let h = d .before .before in
-    lines-more (start h .pre) (h .loop .inv) (d .before .loop-test .taken) (d .line-end .ensures) (e .compose-line .ensures)
+    lines-more (start h .pre) (h .loop .inv) (d .before .loop-test .taken) (d .line-end .ensures)
+    (e .compose-line .ensures)
 
 same-length : tie.Need-same-length Inv-loop μ-loop
 same-length c = places-length (start (c .before) .pre) (c .before .loop .inv)

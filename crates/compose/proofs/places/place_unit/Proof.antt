@@ -1,19 +1,18 @@
--- `compose::places::place_unit` meets its contract: after k turns the places of k records are written.
--- Assumes nothing.
-use mathlib.Core.Path.{ap, _∙_}
-use Prim.Native.Nat.{_-_, _*_, _+_}
+-- `compose::places::place_unit` meets its contract: after k turns the places of k records are written. Assumes nothing.
+use mathlib.Core.Path.{ap}
+use Prim.Native.Nat.{_-_}
 use native.Mathlib.Omega.{arith}
 use borrow.Author.Needs.{needs}
 use denote.Ref.{now}
-use Rattle.compose.proofs.Limits.{record-limits, unit-records}
-use Rattle.compose.proofs.UnitPlaces.{UnitPlacing, unit-start, unit-more, unit-done, unit-length, UnitTurn, unit-turn, offset-bounds, offset-limit}
+use Rattle.compose.proofs.Limits.{record-limits}
+use Rattle.compose.proofs.UnitPlaces.{UnitPlacing, unit-start, unit-more, unit-done, unit-length}
+use Rattle.compose.proofs.UnitPlaces.{UnitTurn, unit-turn, offset-bounds, offset-limit}
 use Rattle.compose.proofs.places.place_unit.Statement.{statement}
 use Rattle.compose.proofs.places.place_unit.Tie as tie
-use Rattle.compose.proofs.places.place_unit.Reads as reads
-use Rattle.compose.proofs.places.place_unit.Lts as lts
 
 abbrev Inv-loop : tie.InvT-loop
-Inv-loop ws units a line x places₀ records base first solid₀ k₀ places solid k = UnitPlacing ws a line x places₀ places solid k
+Inv-loop ws units a line x places₀ records base first solid₀ k₀ places solid k =
+    UnitPlacing ws a line x places₀ places solid k
 
 abbrev μ-loop : tie.MeasureT-loop
 μ-loop ws units a line x places₀ records base first solid₀ k₀ places solid k = records - k
@@ -45,12 +44,12 @@ record-at-requires c κs = search needs
 loop-holds : tie.Need-loop-holds Inv-loop μ-loop
 loop-holds c = unit-start (c .before .before .before .before .before .pre)
 
--- what is known at a turn
 abbrev start : tie.In-loop Inv-loop μ-loop → tie.Start Inv-loop μ-loop
 start c = c .before .before .before .before .before .before .before
 
-turn : (c : tie.In-loop Inv-loop μ-loop) →
-    UnitTurn (now (start c .args .ws)) (start c .args .a) (c .before .loop .places) (c .before .loop .solid) (c .before .loop .k)
+-- what is known at a turn
+turn : (c : tie.In-loop Inv-loop μ-loop) → let l = c .before .loop in
+    UnitTurn (now (start c .args .ws)) (start c .args .a) (l .places) (l .solid) (l .k)
 turn c = unit-turn (start c .pre) (c .before .loop .inv) (c .loop-test .taken)
 
 cast-b : tie.Need-cast-b Inv-loop μ-loop
@@ -66,8 +65,10 @@ base-offset-requires c κs =
 add-put-place : tie.Need-add-put-place Inv-loop μ-loop
 add-put-place c =
     let d = c .before .before in
-    let o = offset-limit (start d .pre) (d .before .loop .inv) (d .loop-test .taken) (d .before .before .record-at .ensures) (c .before .base-offset .ensures) in
-    omega (arith, start d .pre .start)
+    let r = d .before .before .record-at .ensures in
+    let p = start d .pre in
+    let o = offset-limit p (d .before .loop .inv) (d .loop-test .taken) r (c .before .base-offset .ensures) in
+    omega (arith, p .start)
 
 put-place-requires : tie.Need-put-place-requires Inv-loop μ-loop
 put-place-requires c κs = turn (c .before .before) .room
@@ -78,9 +79,9 @@ record-at-requires-2 c κs = turn (c .before .before .before .before .before) .i
 add-solid : tie.Need-add-solid Inv-loop μ-loop
 add-solid c =
     let d = c .before .before .before .before .before .before .before in
-    let p = start d .pre in
     let t = turn d in
-    omega (arith, ap (λ r. r .advance) (c .before .record-at2 .ensures), record-limits _ (p .checked) _ (t .inside) .advance)
+    let b = record-limits _ (start d .pre .checked) _ (t .inside) in
+    omega (arith, ap (λ r. r .advance) (c .before .record-at2 .ensures))
 
 add-k : tie.Need-add-k Inv-loop μ-loop
 add-k c = let t = turn (c .before .before .before .before .before .before .before) in omega arith
@@ -100,7 +101,9 @@ same-length : tie.Need-same-length Inv-loop μ-loop
 same-length c = unit-length (c .before .before .before .before .before .before .before .pre) (c .before .loop .inv)
 
 returns : tie.Need-returns Inv-loop μ-loop
-returns c = unit-done (c .before .before .before .before .before .before .before .pre) (c .before .loop .inv) (c .loop-test .left)
+returns c =
+    let p = c .before .before .before .before .before .before .before .pre in
+    unit-done p (c .before .loop .inv) (c .loop-test .left)
 
 pub place-unit-spec : {M : Type 1} → statement M
 place-unit-spec =

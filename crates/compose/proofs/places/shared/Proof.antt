@@ -5,8 +5,6 @@ use borrow.Author.Needs.{needs}
 use Rattle.compose.proofs.Floors.{floor-within, product-fits}
 use Rattle.compose.proofs.places.shared.Statement.{statement}
 use Rattle.compose.proofs.places.shared.Tie as tie
-use Rattle.compose.proofs.places.shared.Reads as reads
-use Rattle.compose.proofs.places.shared.Lts as lts
 
 returns : tie.Need-returns
 returns c = rw (c .if1 .taken, zero-mul, zero-div)

@@ -1,17 +1,27 @@
--- `rules::records::class_row` meets its contract. That its table is the rules' own, as `rows-at` has it, is computed.
+-- `rules::records::class_row` meets its contract. That its table is the rules' own, as `entry-at` has it, is computed.
 -- Assumes nothing.
+use mathlib.Core.Path.{_≡_, ap, _∙_}
+use Prim.Native.Nat.{_/_, _%_}
+use mathlib.Core.Logic.{⊎-elim}
 use borrow.Author.Needs.{needs}
 use Rattle.rules.specs.Records.{classes, rowOf, advanceKind}
-use Rattle.rules.proofs.Rows.{rows-at, rows-past}
+use Rattle.rules.specs.Values.{kindNumbered}
+use Rattle.rules.proofs.Rows.{entryOf, entry-at, entry-past, entry-row, entry-kind}
 use Rattle.rules.proofs.records.class_row.Statement.{statement}
 use Rattle.rules.proofs.records.class_row.Tie as tie
 
-returns : tie.Need-returns
+-- the entry is the class's own
+entry-is : (c : tie.Joined1) → c .if1 .entry ≡ entryOf (c .before .args .class)
 unfolding rowOf classes advanceKind
-returns c = rows-at _ (c .before .before .args .class) (c .before .if1 .taken)
+entry-is c = ⊎-elim (λ w. w .2 ∙ w .1 .ensures ∙ entry-at _ (w .0 .taken)) (λ w. w .1 ∙ entry-past _ (w .0 .left)) (c .if1 .came)
 
-returns-2 : tie.Need-returns-2
-returns-2 c = rows-past _ (c .if1 .left)
+returns : tie.Need-returns
+returns c =
+    let e = entry-is (c .before .before) in
+    record {
+      row = ap (λ n. n / 4) e ∙ entry-row _;
+      kind = c .kind-numbered .ensures ∙ ap (λ n. kindNumbered (n % 4)) e ∙ entry-kind _;
+    }
 
 pub class-row-spec : {M : Type 1} → statement M
-class-row-spec = tie.close (tie.spec (λ c. search needs) (λ c. search needs) returns returns-2)
+class-row-spec = tie.close (tie.spec (λ c. search needs) (λ c κs. search needs) (λ c κs. search needs) returns)

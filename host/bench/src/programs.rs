@@ -1,0 +1,50 @@
+//! The calls of both programs behind one set of function pointers.
+
+use std::ops::Range;
+
+type SetUp = fn(&mut [u32], &[u32], &[u32], &[u32]) -> u32;
+type Edit = fn(&mut [u32], u32, u32, u32, u32, &[u32]) -> u32;
+
+/// A program's calls on raw words. Edit and set-up say their number.
+#[derive(Clone, Copy)]
+pub struct Program {
+    /// The column's name.
+    pub name: &'static str,
+    pub set_up: SetUp,
+    pub edit: Edit,
+    pub read_number: fn(&[u32], u32, u32) -> u32,
+    pub read: fn(&[u32], u32, u32) -> Range<usize>,
+}
+
+const SECOND: Program = Program {
+    name: "second",
+    set_up: |sheet, clinics, measures, indents| second::set_up(sheet, clinics, measures, indents).number,
+    edit: |sheet, caller, slot, place, deleted, inserted| {
+        second::edit(sheet, caller, slot, place, deleted, inserted).number
+    },
+    read_number: second::read_number,
+    read: second::read,
+};
+
+#[cfg(feature = "proved")]
+const PROVED: Program = {
+    use gelumbrio::{raw, Clinic, SlotNumber};
+    Program {
+        name: "proved",
+        set_up: |sheet, clinics, measures, indents| raw::set_up(sheet, clinics, measures, indents).number,
+        edit: |sheet, caller, slot, place, deleted, inserted| {
+            raw::edit(sheet, Clinic(caller), SlotNumber(slot), place, deleted, inserted).number
+        },
+        read_number: |sheet, caller, slot| raw::read_number(sheet, Clinic(caller), SlotNumber(slot)),
+        read: |sheet, caller, slot| raw::read(sheet, Clinic(caller), SlotNumber(slot)),
+    }
+};
+
+/// The programs that are timed.
+pub fn all() -> Vec<Program> {
+    vec![
+        #[cfg(feature = "proved")]
+        PROVED,
+        SECOND,
+    ]
+}

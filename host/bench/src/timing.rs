@@ -1,0 +1,61 @@
+//! Medians of interleaved rounds.
+
+use std::time::{Duration, Instant};
+
+/// Rounds; the median of an odd number is one of them.
+const ROUNDS: usize = 201;
+
+/// How long one cell runs in one round: short, so that neighbours meet the same moment.
+const SLICE: Duration = Duration::from_micros(400);
+
+/// Something to time: a column of a row.
+pub struct Cell {
+    pub row: &'static str,
+    pub column: &'static str,
+    /// Makes one call; what it takes is timed.
+    pub call: Box<dyn FnMut()>,
+    /// Nanoseconds per call in each round.
+    pub nanoseconds: Vec<f64>,
+}
+
+impl Cell {
+    pub fn new(row: &'static str, column: &'static str, call: impl FnMut() + 'static) -> Cell {
+        Cell { row, column, call: Box::new(call), nanoseconds: Vec::new() }
+    }
+
+    /// The median over the rounds.
+    pub fn median(&self) -> f64 {
+        let mut sorted = self.nanoseconds.clone();
+        sorted.sort_by(f64::total_cmp);
+        sorted.get(sorted.len() / 2).copied().unwrap_or(f64::NAN)
+    }
+
+    /// The time of this many calls.
+    fn run(&mut self, calls: u32) -> Duration {
+        let start = Instant::now();
+        for _ in 0..calls {
+            (self.call)();
+        }
+        start.elapsed()
+    }
+
+    /// How many calls fill a slice, found by doubling. This also warms up.
+    fn calls_per_slice(&mut self) -> u32 {
+        let mut calls = 1;
+        while self.run(calls) < SLICE && calls < 1 << 24 {
+            calls *= 2;
+        }
+        calls
+    }
+}
+
+/// Times every cell once in each round.
+pub fn time(cells: &mut [Cell]) {
+    let calls: Vec<u32> = cells.iter_mut().map(Cell::calls_per_slice).collect();
+    for _ in 0..ROUNDS {
+        for (cell, &calls) in cells.iter_mut().zip(&calls) {
+            let per_call = cell.run(calls).as_nanos() as f64 / f64::from(calls);
+            cell.nanoseconds.push(per_call);
+        }
+    }
+}

@@ -1,0 +1,30 @@
+//! The comparisons: each runs the program under test beside the second one and says what it saw.
+
+pub mod cases;
+pub mod junk;
+pub mod limits;
+pub mod pairs;
+pub mod paragraphs;
+pub mod ruby;
+pub mod sequences;
+pub mod short;
+
+use crate::failure::Failure;
+use crate::program::Program;
+use crate::run::Tally;
+use crate::Scope;
+
+/// A comparison.
+pub type Comparison = fn(&dyn Program, Scope) -> Result<Tally, Failure>;
+
+/// All comparisons, the quickest first.
+pub const ALL: [Comparison; 8] = [
+    cases::compare,
+    ruby::compare,
+    limits::compare,
+    junk::compare,
+    pairs::compare,
+    paragraphs::compare,
+    sequences::compare,
+    short::compare,
+];

@@ -1,0 +1,33 @@
+//! Random paragraphs of up to 256 records, groups with ruby among them.
+
+use crate::failure::Failure;
+use crate::generate::{spoil, Style};
+use crate::one_slot::OneSlot;
+use crate::program::Program;
+use crate::random::{seeds, Random};
+use crate::run::Tally;
+use crate::Scope;
+
+const TEST: &str = "paragraphs";
+
+/// Compares random paragraphs.
+pub fn compare(program: &dyn Program, scope: Scope) -> Result<Tally, Failure> {
+    let mut slot = OneSlot::new(TEST, program);
+    for seed in seeds(TEST, scope, 100_000, 800) {
+        let mut random = Random::new(seed);
+        let style = Style::random(&mut random);
+        let measure = style.measure(&mut random);
+        let indent = style.indent(&mut random, measure);
+        slot.set_up(measure, indent)?;
+        for _ in 0..3 {
+            let longest = random.one_of(&[2, 12, 60, 256]);
+            let count = random.below(longest + 1);
+            let mut text = style.paragraph(&mut random, count);
+            if random.once_in(20) {
+                spoil(&mut random, &mut text);
+            }
+            slot.replace(Some(seed), &text)?;
+        }
+    }
+    Ok(slot.tally)
+}

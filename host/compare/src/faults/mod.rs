@@ -1,0 +1,247 @@
+//! Faults planted into the second program, each of which the comparisons must find.
+//!
+//! A fault wraps the second program: it changes what goes in, or spoils what comes out. The first
+//! few are document 01's "Easy errors a bidder will make".
+
+mod edits;
+mod slots;
+
+use std::ops::Range;
+
+use second::{Answer, RubyPlace};
+
+use crate::layout::{LINES, SLOT};
+use crate::program::{Program, Second};
+use edits::Edit;
+use slots::{keep_texts, slot_words, whole_slots};
+
+/// A wrong program.
+#[derive(Debug, Clone, Copy, PartialEq, Eq)]
+pub enum Fault {
+    /// A comma's space never shrinks, so that lines break where their natural width overflows.
+    NaturalBreaks,
+    /// The slot is looked at before the caller: a neighbour's damage shows as 4 in place of 3.
+    DamageBeforeCaller,
+    /// Rounding leftovers go to a line's last gap.
+    LeftoverToLastGap,
+    /// Old line words stay past the new line count.
+    OldLines,
+    /// Old places stay past the new record count.
+    OldPlaces,
+    /// Old records stay past the new record count.
+    OldRecords,
+    /// The three zeros of the head are not written.
+    OldZeros,
+    /// An edit composes, but says the old line count.
+    OldLineCount,
+    /// An accepted edit changes a word of the next slot.
+    NextSlot,
+    /// An edit refused with 10 has already written the head.
+    RefusalWrites,
+    /// Everything is refused.
+    RefuseAll,
+    /// Caller 0 may edit an unassigned slot.
+    CallerZero,
+    /// Only the low 16 bits of a caller are looked at.
+    ShortCaller,
+    /// A slot number past the end starts again from the first slot.
+    SlotWraps,
+    /// Words past the last whole slot are overlooked.
+    LooseLength,
+    /// The end of the deletion is reckoned in 32 bits.
+    DeletionWraps,
+    /// Answer 5 names the place in place of the count.
+    FiveNamesPlace,
+    /// Too many records are seen before words that are no whole record.
+    SevenBeforeSix,
+    /// Group faults are seen before records that break their own rules.
+    NineBeforeEight,
+    /// Answer 8 names the record among the inserted ones.
+    EightNamesInserted,
+    /// Answer 9 names the group's first record.
+    NineNamesGroup,
+    /// Answer 10 names the paragraph's first record.
+    TenNamesFirst,
+    /// Stored records are not judged.
+    StoredUnjudged,
+    /// The indent moves line 0, but takes no room on it.
+    IndentForgotten,
+    /// The final line is flush where it ends at the measure.
+    FinalFlush,
+    /// The 256th record is not placed.
+    LastRecord,
+    /// The 256th line is not written.
+    LastLine,
+    /// Set-up leaves the text of a slot whose clinic stays.
+    SetUpKeepsText,
+    /// Set-up lets clinics over 16 bits in.
+    SetUpAnyClinic,
+    /// Set-up names the last slot out of limits.
+    SetUpNamesLast,
+    /// Read hands back all line words, used or not.
+    ReadAll,
+    /// Read hands back its part although it is refused.
+    ReadRefusedPart,
+    /// Read does not judge the line count.
+    ReadAnyCount,
+    /// Read judges the slot's measure too.
+    ReadJudges,
+    /// A group is as wide as its base, or as a single ruby character.
+    NarrowRuby,
+    /// Two dashes hold together whatever their code points.
+    DashesAlike,
+    /// Ruby offsets are rounded up.
+    RubyUp,
+    /// Ruby place takes an index equal to the count.
+    RubyOneMore,
+    /// One class is set as if it were another of the same advance.
+    ClassAs(u32, u32),
+    /// The space between two classes of unlike size is one too wide.
+    PairShifted(u32, u32),
+}
+
+/// Every fault but those of classes.
+pub const SINGLE: [Fault; 38] = [
+    Fault::NaturalBreaks,
+    Fault::DamageBeforeCaller,
+    Fault::LeftoverToLastGap,
+    Fault::OldLines,
+    Fault::OldPlaces,
+    Fault::OldRecords,
+    Fault::OldZeros,
+    Fault::OldLineCount,
+    Fault::NextSlot,
+    Fault::RefusalWrites,
+    Fault::RefuseAll,
+    Fault::CallerZero,
+    Fault::ShortCaller,
+    Fault::SlotWraps,
+    Fault::LooseLength,
+    Fault::DeletionWraps,
+    Fault::FiveNamesPlace,
+    Fault::SevenBeforeSix,
+    Fault::NineBeforeEight,
+    Fault::EightNamesInserted,
+    Fault::NineNamesGroup,
+    Fault::TenNamesFirst,
+    Fault::StoredUnjudged,
+    Fault::IndentForgotten,
+    Fault::FinalFlush,
+    Fault::LastRecord,
+    Fault::LastLine,
+    Fault::SetUpKeepsText,
+    Fault::SetUpAnyClinic,
+    Fault::SetUpNamesLast,
+    Fault::ReadAll,
+    Fault::ReadRefusedPart,
+    Fault::ReadAnyCount,
+    Fault::ReadJudges,
+    Fault::NarrowRuby,
+    Fault::DashesAlike,
+    Fault::RubyUp,
+    Fault::RubyOneMore,
+];
+
+/// A class set as another: each of these changes some rule.
+pub const CLASSES_AS: [Fault; 20] = [
+    Fault::ClassAs(1, 2),
+    Fault::ClassAs(2, 6),
+    Fault::ClassAs(2, 7),
+    Fault::ClassAs(5, 6),
+    Fault::ClassAs(6, 7),
+    Fault::ClassAs(7, 6),
+    Fault::ClassAs(4, 9),
+    Fault::ClassAs(4, 13),
+    Fault::ClassAs(8, 13),
+    Fault::ClassAs(13, 8),
+    Fault::ClassAs(9, 4),
+    Fault::ClassAs(10, 19),
+    Fault::ClassAs(11, 15),
+    Fault::ClassAs(12, 13),
+    Fault::ClassAs(13, 12),
+    Fault::ClassAs(13, 14),
+    Fault::ClassAs(14, 13),
+    Fault::ClassAs(15, 11),
+    Fault::ClassAs(16, 13),
+    Fault::ClassAs(19, 14),
+];
+
+impl Program for Fault {
+    fn set_up(&self, sheet: &mut [u32], clinics: &[u32], measures: &[u32], indents: &[u32]) -> Answer {
+        let before = sheet.to_vec();
+        match self {
+            Fault::LooseLength => return Second.set_up(whole_slots(sheet), clinics, measures, indents),
+            Fault::SetUpAnyClinic => {
+                let short: Vec<u32> = clinics.iter().map(|clinic| clinic % 65_536).collect();
+                return Second.set_up(sheet, &short, measures, indents);
+            }
+            _ => {}
+        }
+        let answer = Second.set_up(sheet, clinics, measures, indents);
+        match self {
+            Fault::SetUpKeepsText if answer.number == 0 => keep_texts(sheet, &before),
+            Fault::SetUpNamesLast if answer.number == 11 => {
+                return last_out_of_limits(clinics, measures, indents)
+            }
+            _ => {}
+        }
+        answer
+    }
+
+    fn edit(
+        &self,
+        sheet: &mut [u32],
+        caller: u32,
+        slot: u32,
+        place: u32,
+        deleted: u32,
+        inserted: &[u32],
+    ) -> Answer {
+        Edit { caller, slot, place, deleted, inserted }.with(*self, sheet)
+    }
+
+    fn read_number(&self, sheet: &[u32], caller: u32, slot: u32) -> u32 {
+        let number = Second.read_number(sheet, caller, slot);
+        let (clinic, measure) = slot_words(sheet, slot).map_or((0, 0), |words| (words[0], words[1]));
+        match self {
+            Fault::ReadAnyCount if number == 4 => 0,
+            Fault::ReadJudges if number == 0 && !(8..=1_000_000).contains(&measure) => 4,
+            Fault::CallerZero if number == 3 && caller == 0 && clinic == 0 => 0,
+            _ => number,
+        }
+    }
+
+    fn read(&self, sheet: &[u32], caller: u32, slot: u32) -> Range<usize> {
+        let part = Second.read(sheet, caller, slot);
+        let start = (slot as usize).saturating_mul(SLOT).saturating_add(LINES);
+        match self {
+            Fault::ReadAll if !part.is_empty() => start..start + 768,
+            Fault::ReadRefusedPart if part == (0..0) && start < sheet.len() => start..start,
+            _ => part,
+        }
+    }
+
+    fn ruby_place(&self, base_advance: u32, ruby_count: u32, size: u32, k: u32) -> RubyPlace {
+        let right = Second.ruby_place(base_advance, ruby_count, size, k);
+        match self {
+            Fault::RubyUp if right.number == 0 => {
+                let shortfall = u64::from(base_advance.saturating_sub(ruby_count * size / 2));
+                let halves = shortfall * u64::from(2 * k + 1);
+                let left_over = halves % u64::from(2 * ruby_count) != 0;
+                RubyPlace { number: 0, offset: right.offset + u32::from(left_over) }
+            }
+            Fault::RubyOneMore if k == ruby_count => {
+                Second.ruby_place(base_advance, ruby_count, size, k.saturating_sub(1))
+            }
+            _ => right,
+        }
+    }
+}
+
+fn last_out_of_limits(clinics: &[u32], measures: &[u32], indents: &[u32]) -> Answer {
+    let out = |at: usize| {
+        clinics[at] > 65_535 || !(8..=1_000_000).contains(&measures[at]) || indents[at] >= measures[at]
+    };
+    let last = (0..clinics.len()).rev().find(|&at| out(at));
+    Answer { number: 11, place: last.unwrap_or(0) as u32 }
+}

@@ -1,0 +1,251 @@
+//! Random records, paragraphs and calls.
+
+use second::book::Book;
+
+use crate::calls::{Call, Words};
+use crate::layout::{CLASSES, SLOT};
+use crate::random::Random;
+
+/// Numbers at the limits of document 01 and of 32 bits.
+pub const EDGES: [u32; 30] = [
+    0, 1, 2, 3, 6, 7, 8, 9, 15, 16, 17, 18, 19, 20, 26, 27, 28, 63, 64, 65, 255, 256, 257, 4_000, 65_535,
+    65_536, 999_999, 1_000_001, 0x8000_0000, 0xFFFF_FFFF,
+];
+
+/// The advance of a record of this class, in the middle where there is a choice.
+pub fn usual_advance(class: u32, size: u32) -> u32 {
+    match class {
+        1 | 2 | 3 | 5 | 6 | 7 | 27 => size / 2,
+        _ => size,
+    }
+}
+
+/// A record outside groups.
+pub fn plain(class: u32, size: u32) -> Words {
+    [0x3042, class, size, usual_advance(class, size), 0, 0]
+}
+
+/// What a paragraph is made of.
+#[derive(Debug, Clone, Copy)]
+pub struct Style {
+    /// The sizes to choose from.
+    sizes: &'static [u32],
+    /// One unit in so many is a group.
+    one_group_in: u32,
+    /// One record in so many has any class at all, the others one that is frequent in text.
+    any_class_in: u32,
+}
+
+const STYLES: [Style; 6] = [
+    Style { sizes: &[80], one_group_in: 12, any_class_in: 6 },
+    Style { sizes: &[8], one_group_in: 40, any_class_in: 3 },
+    Style { sizes: &[8, 16, 24, 48], one_group_in: 8, any_class_in: 2 },
+    Style { sizes: &[80, 160], one_group_in: 2, any_class_in: 8 },
+    Style { sizes: &[3_992, 4_000], one_group_in: 6, any_class_in: 2 },
+    Style { sizes: &[40], one_group_in: 1_000, any_class_in: 1 },
+];
+
+const FREQUENT: [u32; 12] = [15, 15, 15, 16, 19, 19, 19, 7, 6, 1, 2, 27];
+
+impl Style {
+    /// One of the styles.
+    pub fn random(random: &mut Random) -> Style {
+        random.one_of(&STYLES)
+    }
+
+    /// A measure in which a paragraph of this style mostly fits, from a few units to one line.
+    pub fn measure(&self, random: &mut Random) -> u32 {
+        let size = random.one_of(self.sizes);
+        let units = random.one_of(&[1, 2, 4, 8, 16, 30, 300]);
+        let measure = size * units + random.below(size * units);
+        measure.clamp(8, 1_000_000)
+    }
+
+    /// Mostly none, else anything below the measure.
+    pub fn indent(&self, random: &mut Random, measure: u32) -> u32 {
+        match random.below(4) {
+            0 => random.below(measure),
+            1 => random.below(measure.min(100)),
+            _ => 0,
+        }
+    }
+
+    /// A record outside groups.
+    fn record(&self, random: &mut Random) -> Words {
+        let any = random.once_in(self.any_class_in);
+        let class = if any { random.one_of(&CLASSES) } else { random.one_of(&FREQUENT) };
+        let size = random.one_of(self.sizes);
+        let advance = match class {
+            3 => random.between(1, size),
+            27 if random.once_in(4) => random.between(1, 2 * size),
+            _ => usual_advance(class, size),
+        };
+        let code_point = if class == 8 { 0x2014 + random.below(2) } else { random.between(0x3041, 0x3096) };
+        [code_point, class, size, advance, 0, 0]
+    }
+
+    /// The records of a group; few numbers, so that neighbours are sometimes one group.
+    fn group(&self, random: &mut Random) -> Vec<Words> {
+        let class = random.one_of(&[15, 16, 19, 19]);
+        let size = random.one_of(self.sizes);
+        let group = if random.once_in(4) { 65_535 } else { random.between(1, 40) };
+        let ruby_count = if random.once_in(6) { random.between(1, 64) } else { random.between(1, 6) };
+        let count = if random.once_in(6) { random.between(1, 16) } else { random.between(1, 3) };
+        vec![[0x6F22, class, size, size, group, ruby_count]; count as usize]
+    }
+
+    /// A paragraph of this many records, each keeping its own rules.
+    pub fn paragraph(&self, random: &mut Random, count: u32) -> Vec<u32> {
+        let mut records: Vec<Words> = Vec::with_capacity(count as usize + 16);
+        while records.len() < count as usize {
+            if random.once_in(self.one_group_in) {
+                records.extend(self.group(random));
+            } else {
+                records.push(self.record(random));
+            }
+        }
+        records.truncate(count as usize);
+        records.concat()
+    }
+}
+
+/// Spoils one word, which may or may not break a rule.
+pub fn spoil(random: &mut Random, words: &mut [u32]) {
+    if !words.is_empty() {
+        let at = random.below(words.len() as u32) as usize;
+        words[at] = match random.below(4) {
+            0 => random.one_of(&EDGES),
+            1 => random.one_of(&[0xD7FF, 0xD800, 0xDFFF, 0xE000, 0x10_FFFF, 0x11_0000]),
+            2 => words[at].wrapping_add(1),
+            _ => words[at].wrapping_sub(1),
+        };
+    }
+}
+
+/// Makes the calls of a sequence, most of them accepted, refusals of every number among them.
+pub struct Caller {
+    random: Random,
+    length: usize,
+    style: Style,
+    /// Whether words are damaged between calls.
+    damages: bool,
+    /// The slot that was damaged last, until a call has looked at it.
+    damaged: Option<u32>,
+}
+
+impl Caller {
+    /// Calls on a sheet of this length.
+    pub fn new(seed: u64, length: usize, damages: bool) -> Caller {
+        let mut random = Random::new(seed);
+        let style = Style::random(&mut random);
+        Caller { random, length, style, damages, damaged: None }
+    }
+
+    fn slots(&self) -> u32 {
+        (self.length / SLOT) as u32
+    }
+
+    /// The next call, where the book stands so.
+    pub fn next(&mut self, book: &Book) -> Call {
+        match self.random.below(100) {
+            // Before the first accepted set-up the sheet is junk and few other calls are made.
+            0..=79 if !book.is_set_up() => self.set_up(),
+            0..=2 => self.set_up(),
+            3..=14 => self.read(book),
+            15..=18 if self.damages => self.damage(),
+            19..=49 if self.damaged.is_some() => self.read(book),
+            _ => self.edit(book),
+        }
+    }
+
+    fn set_up(&mut self) -> Call {
+        let random = &mut self.random;
+        let slots = (self.length / SLOT) as u32;
+        let few = random.once_in(2);
+        let clinics: Vec<u32> = (0..slots)
+            .map(|slot| if few { random.one_of(&[0, 1, 1, 1, 2, 2, 2]) } else { 1 + slot })
+            .collect();
+        let measures: Vec<u32> = (0..slots).map(|_| self.style.measure(random)).collect();
+        let indents = measures.iter().map(|&measure| self.style.indent(random, measure)).collect();
+        let mut lists = [clinics, measures, indents];
+        let spoiled = &mut lists[random.below(3) as usize];
+        match random.below(12) {
+            0 => spoiled.push(1),
+            1 => drop(spoiled.pop()),
+            2 | 3 => spoil(random, spoiled),
+            _ => {}
+        }
+        let [clinics, measures, indents] = lists;
+        Call::SetUp { clinics, measures, indents }
+    }
+
+    /// Mostly a slot of the sheet and its own clinic.
+    fn caller_and_slot(&mut self, book: &Book) -> (u32, u32) {
+        let slots = self.slots();
+        let slot = match (self.damaged.take(), self.random.below(30)) {
+            (Some(slot), _) => slot,
+            (None, 0) => self.random.one_of(&[slots, slots + 1, 63, 64, u32::MAX]),
+            (None, _) => self.random.below(slots.max(1)),
+        };
+        let own = book.clinic(slot).unwrap_or(1);
+        let caller = match self.random.below(30) {
+            0 => self.random.one_of(&[0, own.wrapping_add(1), own.wrapping_add(65_536), u32::MAX]),
+            _ => own,
+        };
+        (caller, slot)
+    }
+
+    fn read(&mut self, book: &Book) -> Call {
+        let (caller, slot) = self.caller_and_slot(book);
+        Call::Read { caller, slot }
+    }
+
+    fn edit(&mut self, book: &Book) -> Call {
+        let (caller, slot) = self.caller_and_slot(book);
+        let count = book.record_count(slot).unwrap_or(0) as u32;
+        let random = &mut self.random;
+        let mut place = random.below(count + 1);
+        let mut deleted = random.below(count - place + 1);
+        if !random.once_in(4) {
+            deleted = deleted.min(random.below(8));
+        }
+        match random.below(60) {
+            0 => place = random.one_of(&[count + 1, 256, 257, u32::MAX]),
+            1 => deleted = random.one_of(&[count - place + 1, 257, u32::MAX, place.wrapping_neg()]),
+            _ => {}
+        }
+        let inserted = self.inserted(256 - (count - deleted.min(count)));
+        Call::Edit { caller, slot, place, deleted, inserted }
+    }
+
+    /// Words to insert where there is room for this many records.
+    fn inserted(&mut self, room: u32) -> Vec<u32> {
+        let random = &mut self.random;
+        let count = match random.below(20) {
+            0 => room,
+            1 => room + 1,
+            2 => random.between(0, 300),
+            3..=5 => random.below(room + 1),
+            _ => random.below(room.min(12) + 1),
+        };
+        let mut words = self.style.paragraph(random, count);
+        match random.below(30) {
+            0 => words.push(random.word()),
+            1 => drop(words.pop()),
+            2 | 3 => spoil(random, &mut words),
+            _ => {}
+        }
+        words
+    }
+
+    fn damage(&mut self) -> Call {
+        let slots = self.slots().max(1);
+        let random = &mut self.random;
+        let slot = random.below(slots);
+        // Mostly in the head or the first records, where it matters.
+        let among = random.one_of(&[8, 8, 60, SLOT as u32]);
+        let at = slot as usize * SLOT + random.below(among) as usize;
+        self.damaged = Some(slot);
+        Call::Damage { at, word: random.one_of(&EDGES) }
+    }
+}

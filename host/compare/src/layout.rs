@@ -1,0 +1,34 @@
+//! The layout of a sheet (document 01, "The sheet"), written down apart from both programs.
+
+/// The words of a slot.
+pub const SLOT: usize = 2_824;
+/// Where in a slot the records start.
+pub const RECORDS: usize = 8;
+/// Where in a slot the places start.
+pub const PLACES: usize = 1_544;
+/// Where in a slot the lines start.
+pub const LINES: usize = 2_056;
+
+/// The eighteen classes.
+pub const CLASSES: [u32; 18] = [1, 2, 3, 4, 5, 6, 7, 8, 9, 10, 11, 12, 13, 14, 15, 16, 19, 27];
+
+/// Which word of a sheet this is, for a person.
+pub fn name(at: usize) -> String {
+    let (slot, word) = (at / SLOT, at % SLOT);
+    const HEAD: [&str; 8] =
+        ["clinic", "measure", "indent", "record count", "line count", "zero", "zero", "zero"];
+    const RECORD: [&str; 6] = ["code point", "class", "size", "advance", "group", "ruby count"];
+    const PLACE: [&str; 2] = ["x", "line number"];
+    const LINE: [&str; 3] = ["first record", "end x", "kind"];
+    let part = match word {
+        0..RECORDS => HEAD[word].to_string(),
+        RECORDS..PLACES => item("record", word - RECORDS, &RECORD),
+        PLACES..LINES => item("place", word - PLACES, &PLACE),
+        _ => item("line", word - LINES, &LINE),
+    };
+    format!("word {at} (slot {slot}, {part})")
+}
+
+fn item(name: &str, word: usize, fields: &[&str]) -> String {
+    format!("{name} {}: {}", word / fields.len(), fields[word % fields.len()])
+}

@@ -1,0 +1,113 @@
+//! The programs that can be compared.
+
+use std::ops::Range;
+
+use second::{Answer, RubyPlace};
+
+/// A program that answers document 01's calls on raw words.
+pub trait Program {
+    /// Set-up.
+    fn set_up(&self, sheet: &mut [u32], clinics: &[u32], measures: &[u32], indents: &[u32]) -> Answer;
+
+    /// Edit.
+    fn edit(
+        &self,
+        sheet: &mut [u32],
+        caller: u32,
+        slot: u32,
+        place: u32,
+        deleted: u32,
+        inserted: &[u32],
+    ) -> Answer;
+
+    /// Read's number.
+    fn read_number(&self, sheet: &[u32], caller: u32, slot: u32) -> u32;
+
+    /// Read: the part of the sheet it hands back.
+    fn read(&self, sheet: &[u32], caller: u32, slot: u32) -> Range<usize>;
+
+    /// Ruby place.
+    fn ruby_place(&self, base_advance: u32, ruby_count: u32, size: u32, k: u32) -> RubyPlace;
+}
+
+/// The second program.
+#[derive(Debug, Clone, Copy)]
+pub struct Second;
+
+impl Program for Second {
+    fn set_up(&self, sheet: &mut [u32], clinics: &[u32], measures: &[u32], indents: &[u32]) -> Answer {
+        second::set_up(sheet, clinics, measures, indents)
+    }
+
+    fn edit(
+        &self,
+        sheet: &mut [u32],
+        caller: u32,
+        slot: u32,
+        place: u32,
+        deleted: u32,
+        inserted: &[u32],
+    ) -> Answer {
+        second::edit(sheet, caller, slot, place, deleted, inserted)
+    }
+
+    fn read_number(&self, sheet: &[u32], caller: u32, slot: u32) -> u32 {
+        second::read_number(sheet, caller, slot)
+    }
+
+    fn read(&self, sheet: &[u32], caller: u32, slot: u32) -> Range<usize> {
+        second::read(sheet, caller, slot)
+    }
+
+    fn ruby_place(&self, base_advance: u32, ruby_count: u32, size: u32, k: u32) -> RubyPlace {
+        second::ruby_place(base_advance, ruby_count, size, k)
+    }
+}
+
+/// The proved program, through its C interface.
+#[cfg(feature = "proved")]
+#[derive(Debug, Clone, Copy)]
+pub struct Proved;
+
+#[cfg(feature = "proved")]
+impl Program for Proved {
+    fn set_up(&self, sheet: &mut [u32], clinics: &[u32], measures: &[u32], indents: &[u32]) -> Answer {
+        let answer = gelumbrio::raw::set_up(sheet, clinics, measures, indents);
+        Answer { number: answer.number, place: answer.place }
+    }
+
+    fn edit(
+        &self,
+        sheet: &mut [u32],
+        caller: u32,
+        slot: u32,
+        place: u32,
+        deleted: u32,
+        inserted: &[u32],
+    ) -> Answer {
+        let (caller, slot) = (gelumbrio::Clinic(caller), gelumbrio::SlotNumber(slot));
+        let answer = gelumbrio::raw::edit(sheet, caller, slot, place, deleted, inserted);
+        Answer { number: answer.number, place: answer.place }
+    }
+
+    fn read_number(&self, sheet: &[u32], caller: u32, slot: u32) -> u32 {
+        gelumbrio::raw::read_number(sheet, gelumbrio::Clinic(caller), gelumbrio::SlotNumber(slot))
+    }
+
+    fn read(&self, sheet: &[u32], caller: u32, slot: u32) -> Range<usize> {
+        gelumbrio::raw::read(sheet, gelumbrio::Clinic(caller), gelumbrio::SlotNumber(slot))
+    }
+
+    fn ruby_place(&self, base_advance: u32, ruby_count: u32, size: u32, k: u32) -> RubyPlace {
+        let place = gelumbrio::raw::ruby_place(base_advance, ruby_count, size, k);
+        RubyPlace { number: place.number, offset: place.offset }
+    }
+}
+
+/// The program under test.
+#[cfg(feature = "proved")]
+pub const UNDER_TEST: Proved = Proved;
+
+/// The program under test: without the feature `proved`, the second program itself.
+#[cfg(not(feature = "proved"))]
+pub const UNDER_TEST: Second = Second;

@@ -1,0 +1,194 @@
+//! One case on the program under test, on the second program and in the book.
+
+use std::ops::Range;
+
+use second::book::Book;
+use second::Answer;
+
+use crate::calls::{Call, Case};
+use crate::layout;
+use crate::program::{Program, Second};
+
+/// How often each number was answered.
+#[derive(Debug, Clone, Default)]
+pub struct Tally {
+    /// By set-up and edit.
+    pub numbers: [u64; 12],
+    /// By read.
+    pub reads: [u64; 5],
+}
+
+impl Tally {
+    /// All calls that were answered.
+    pub fn calls(&self) -> u64 {
+        self.numbers.iter().chain(&self.reads).sum()
+    }
+
+    /// Counts another tally in.
+    pub fn add(&mut self, other: &Tally) {
+        self.numbers.iter_mut().zip(other.numbers).for_each(|(sum, n)| *sum += n);
+        self.reads.iter_mut().zip(other.reads).for_each(|(sum, n)| *sum += n);
+    }
+
+    /// Counts an answer of set-up or edit.
+    pub fn count(&mut self, answer: Answer) {
+        if let Some(sum) = self.numbers.get_mut(answer.number as usize) {
+            *sum += 1;
+        }
+    }
+
+    fn count_read(&mut self, number: u32) {
+        if let Some(sum) = self.reads.get_mut(number as usize) {
+            *sum += 1;
+        }
+    }
+}
+
+/// A sheet on each side, and the book.
+pub struct Run<'a> {
+    program: &'a dyn Program,
+    tested: Vec<u32>,
+    second: Vec<u32>,
+    book: Book,
+    /// Whether the book speaks for the sheet: a set-up was accepted and no damage done since.
+    book_holds: bool,
+    /// What was answered so far.
+    pub tally: Tally,
+}
+
+/// The calls of a case, all words compared after each; or the first difference.
+pub fn run(program: &dyn Program, case: &Case) -> Result<Tally, String> {
+    let mut run = Run::new(program, case.sheet());
+    for (i, call) in case.calls.iter().enumerate() {
+        run.apply(call).map_err(|difference| format!("call {i}: {difference}"))?;
+    }
+    Ok(run.tally)
+}
+
+impl<'a> Run<'a> {
+    /// Both sides start with these words.
+    pub fn new(program: &'a dyn Program, sheet: Vec<u32>) -> Run<'a> {
+        let tested = sheet.clone();
+        let (book, tally) = (Book::new(), Tally::default());
+        Run { program, tested, second: sheet, book, book_holds: false, tally }
+    }
+
+    /// The book as it stands.
+    pub fn book(&self) -> &Book {
+        &self.book
+    }
+
+    /// The words as they stand.
+    pub fn words(&self) -> &[u32] {
+        &self.second
+    }
+
+    /// Makes a call on both sides and in the book, and compares answers and words.
+    pub fn apply(&mut self, call: &Call) -> Result<(), String> {
+        match call {
+            Call::SetUp { clinics, measures, indents } => self.set_up(clinics, measures, indents)?,
+            Call::Edit { caller, slot, place, deleted, inserted } => {
+                self.edit(*caller, *slot, *place, *deleted, inserted)?;
+            }
+            Call::Read { caller, slot } => self.read(*caller, *slot)?,
+            Call::Damage { at, word } => self.damage(*at, *word),
+        }
+        same_words(&self.tested, &self.second, "the second program")?;
+        if self.book_holds {
+            same_words(&self.tested, &self.book.encode(), "the book")?;
+        }
+        Ok(())
+    }
+
+    fn set_up(&mut self, clinics: &[u32], measures: &[u32], indents: &[u32]) -> Result<(), String> {
+        let tested = self.program.set_up(&mut self.tested, clinics, measures, indents);
+        let second = Second.set_up(&mut self.second, clinics, measures, indents);
+        same_answer(tested, second, "the second program")?;
+        // The answer of set-up depends on no word of the sheet, so the book always knows it.
+        let book = self.book.set_up(self.tested.len(), clinics, measures, indents);
+        same_answer(tested, book, "the book")?;
+        self.book_holds |= second.number == 0;
+        self.tally.count(second);
+        Ok(())
+    }
+
+    fn edit(
+        &mut self,
+        caller: u32,
+        slot: u32,
+        place: u32,
+        deleted: u32,
+        inserted: &[u32],
+    ) -> Result<(), String> {
+        let tested = self.program.edit(&mut self.tested, caller, slot, place, deleted, inserted);
+        let second = Second.edit(&mut self.second, caller, slot, place, deleted, inserted);
+        same_answer(tested, second, "the second program")?;
+        if self.book_holds {
+            let length = self.tested.len();
+            let book = self.book.edit(length, caller, slot, place, deleted, inserted);
+            same_answer(tested, book, "the book")?;
+        }
+        self.tally.count(second);
+        Ok(())
+    }
+
+    fn read(&mut self, caller: u32, slot: u32) -> Result<(), String> {
+        let number = self.program.read_number(&self.tested, caller, slot);
+        let part = self.program.read(&self.tested, caller, slot);
+        let second = Second.read_number(&self.second, caller, slot);
+        same_number(number, second, "the second program")?;
+        same_part(&part, &Second.read(&self.second, caller, slot), number)?;
+        if self.book_holds {
+            let reading = self.book.read(self.tested.len(), caller, slot);
+            same_number(number, reading.number, "the book")?;
+            if self.tested.get(part) != Some(reading.words.as_slice()) {
+                return Err("read's words are not the book's".to_string());
+            }
+        }
+        self.tally.count_read(second);
+        Ok(())
+    }
+
+    fn damage(&mut self, at: usize, word: u32) {
+        for sheet in [&mut self.tested, &mut self.second] {
+            if let Some(damaged) = sheet.get_mut(at) {
+                *damaged = word;
+            }
+        }
+        self.book_holds = false;
+    }
+}
+
+fn same_answer(tested: Answer, other: Answer, whose: &str) -> Result<(), String> {
+    if tested == other {
+        return Ok(());
+    }
+    let (number, place) = (tested.number, tested.place);
+    Err(format!("it answers {number}, {place}; {whose}: {}, {}", other.number, other.place))
+}
+
+fn same_number(tested: u32, other: u32, whose: &str) -> Result<(), String> {
+    if tested == other {
+        return Ok(());
+    }
+    Err(format!("read's number is {tested}; {whose}: {other}"))
+}
+
+/// A refused read hands back 0..0. Where an accepted one is empty, document 01 leaves free where.
+fn same_part(tested: &Range<usize>, second: &Range<usize>, number: u32) -> Result<(), String> {
+    let both_empty = tested.is_empty() && second.is_empty();
+    if tested == second || (number == 0 && both_empty) {
+        return Ok(());
+    }
+    Err(format!("read hands back {tested:?}; the second program: {second:?}"))
+}
+
+fn same_words(tested: &[u32], other: &[u32], whose: &str) -> Result<(), String> {
+    if tested == other {
+        return Ok(());
+    }
+    match tested.iter().zip(other).position(|(a, b)| a != b) {
+        Some(at) => Err(format!("{} is {}; {whose}: {}", layout::name(at), tested[at], other[at])),
+        None => Err(format!("the sheet has {} words; {whose}: {}", tested.len(), other.len())),
+    }
+}

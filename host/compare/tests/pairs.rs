@@ -1,0 +1,6 @@
+//! See `comparisons::pairs`.
+
+#[test]
+fn pairs() {
+    compare::full("pairs", compare::comparisons::pairs::compare);
+}

@@ -1,0 +1,6 @@
+//! See `comparisons::ruby`.
+
+#[test]
+fn ruby() {
+    compare::full("ruby", compare::comparisons::ruby::compare);
+}

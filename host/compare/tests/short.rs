@@ -1,0 +1,6 @@
+//! See `comparisons::short`.
+
+#[test]
+fn short() {
+    compare::full("short", compare::comparisons::short::compare);
+}

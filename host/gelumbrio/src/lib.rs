@@ -1,0 +1,61 @@
+//! A Japanese line composer on a shared sheet of 32-bit words.
+//!
+//! The composer is a proved program with a C interface; this crate is its safe Rust face. Document
+//! 01 says what every call answers and every word of the sheet afterwards.
+//!
+//! ```
+//! use gelumbrio::{Clinic, Kind, Refusal, Sheet, SlotNumber};
+//!
+//! let mut sheet = Sheet::new(2)?;
+//! sheet.set_up(&[Clinic(7), Clinic(9)], &[440, 800], &[0, 0])?;
+//!
+//! // Six ideographs of size 80 in a measure of 440.
+//! let ideograph = [0x6F22, 19, 80, 80, 0, 0];
+//! let lines = sheet.edit(Clinic(7), SlotNumber(0), 0, 0, &[ideograph; 6].concat())?;
+//! assert_eq!(lines, 2);
+//!
+//! let lines = sheet.lines(Clinic(7), SlotNumber(0))?;
+//! assert_eq!((lines[0].kind, lines[0].xs.as_slice()), (Kind::Flush, &[0, 90, 180, 270, 360][..]));
+//! assert_eq!((lines[1].kind, lines[1].end_x), (Kind::Final, 80));
+//!
+//! // Another clinic's slot stays closed.
+//! assert_eq!(sheet.read(Clinic(9), SlotNumber(0)), Err(Refusal::Caller));
+//! # Ok::<(), Refusal>(())
+//! ```
+//!
+//! A clinic and a slot number are different kinds of number. This compiles:
+//!
+//! ```
+//! # use gelumbrio::{Clinic, Sheet, SlotNumber};
+//! # let mut sheet = Sheet::new(1).unwrap();
+//! let _ = sheet.edit(Clinic(1), SlotNumber(0), 0, 0, &[]);
+//! ```
+//!
+//! and with the two exchanged it does not:
+//!
+//! ```compile_fail,E0308
+//! # use gelumbrio::{Clinic, Sheet, SlotNumber};
+//! # let mut sheet = Sheet::new(1).unwrap();
+//! let _ = sheet.edit(SlotNumber(0), Clinic(1), 0, 0, &[]);
+//! ```
+
+pub mod raw;
+mod refusal;
+mod sheet;
+
+pub use raw::{Clinic, SlotNumber};
+pub use refusal::Refusal;
+pub use sheet::{Kind, Line, Sheet, LINES_AT, MAX_SLOTS, PLACES_AT, RECORDS_AT, RECORD_WORDS, SLOT_WORDS};
+
+/// The offset of the k-th ruby character from the start of its group.
+///
+/// `base_advance` is the sum of the base characters' advances; `size` is theirs, and a ruby
+/// character's is half of it.
+pub fn ruby_place(base_advance: u32, ruby_count: u32, size: u32, k: u32) -> Result<u32, Refusal> {
+    let place = raw::ruby_place(base_advance, ruby_count, size, k);
+    match place.number {
+        0 => Ok(place.offset),
+        8 => Err(Refusal::Ruby),
+        number => Err(Refusal::Unlisted { number, place: 0 }),
+    }
+}

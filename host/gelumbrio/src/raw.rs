@@ -1,0 +1,138 @@
+//! The C interface over slices of words, and the only unsafe code.
+//!
+//! These functions take any words and any length, as document 01 says of every call, and are what
+//! [`Sheet`](crate::Sheet) is made of. Most programs want that one.
+
+#![allow(unsafe_code)]
+
+use std::ops::Range;
+
+/// A clinic's number: 1 to 65,535, or 0 for an unassigned slot.
+#[repr(C)]
+#[derive(Debug, Clone, Copy, PartialEq, Eq, PartialOrd, Ord, Hash)]
+pub struct Clinic(pub u32);
+
+/// A slot's number on its sheet, from 0.
+#[repr(C)]
+#[derive(Debug, Clone, Copy, PartialEq, Eq, PartialOrd, Ord, Hash)]
+pub struct SlotNumber(pub u32);
+
+/// The answer of set-up and edit.
+#[repr(C)]
+#[derive(Debug, Clone, Copy, PartialEq, Eq)]
+pub struct Answer {
+    /// 0, or the refusal's number.
+    pub number: u32,
+    /// The line count (set-up: P) where the number is 0, otherwise the refusal's place.
+    pub place: u32,
+}
+
+/// The answer of ruby place.
+#[repr(C)]
+#[derive(Debug, Clone, Copy, PartialEq, Eq)]
+pub struct RubyPlace {
+    /// 0, or 8 where an argument is out of limits.
+    pub number: u32,
+    /// The offset from the start of the group.
+    pub offset: u32,
+}
+
+/// A part of the sheet, in words.
+#[repr(C)]
+struct Part {
+    start: usize,
+    length: usize,
+}
+
+extern "C" {
+    fn gelumbrio_set_up(
+        sheet: *mut u32,
+        sheet_length: usize,
+        clinics: *const u32,
+        clinics_length: usize,
+        measures: *const u32,
+        measures_length: usize,
+        indents: *const u32,
+        indents_length: usize,
+    ) -> Answer;
+
+    fn gelumbrio_edit(
+        sheet: *mut u32,
+        sheet_length: usize,
+        caller: Clinic,
+        slot: SlotNumber,
+        place: u32,
+        deleted: u32,
+        inserted: *const u32,
+        inserted_length: usize,
+    ) -> Answer;
+
+    fn gelumbrio_read_number(sheet: *const u32, sheet_length: usize, caller: Clinic, slot: SlotNumber)
+        -> u32;
+
+    fn gelumbrio_read(sheet: *const u32, sheet_length: usize, caller: Clinic, slot: SlotNumber) -> Part;
+
+    fn gelumbrio_ruby_place(base_advance: u32, ruby_count: u32, size: u32, k: u32) -> RubyPlace;
+}
+
+/// Set-up: gives each slot its clinic, measure and indent and empties it.
+pub fn set_up(sheet: &mut [u32], clinics: &[u32], measures: &[u32], indents: &[u32]) -> Answer {
+    // SAFETY: each pointer and length are of one live slice, and `sheet`, being borrowed mutably,
+    // overlaps none of the lists. The library is proved to stay inside them and keeps no pointer.
+    unsafe {
+        gelumbrio_set_up(
+            sheet.as_mut_ptr(),
+            sheet.len(),
+            clinics.as_ptr(),
+            clinics.len(),
+            measures.as_ptr(),
+            measures.len(),
+            indents.as_ptr(),
+            indents.len(),
+        )
+    }
+}
+
+/// Edit: deletes records at a place, inserts others there and composes the slot anew.
+pub fn edit(
+    sheet: &mut [u32],
+    caller: Clinic,
+    slot: SlotNumber,
+    place: u32,
+    deleted: u32,
+    inserted: &[u32],
+) -> Answer {
+    // SAFETY: both pointers and lengths are of live slices, and `sheet`, being borrowed mutably,
+    // does not overlap `inserted`. The library is proved to stay inside them and keeps no pointer.
+    unsafe {
+        gelumbrio_edit(
+            sheet.as_mut_ptr(),
+            sheet.len(),
+            caller,
+            slot,
+            place,
+            deleted,
+            inserted.as_ptr(),
+            inserted.len(),
+        )
+    }
+}
+
+/// Read's number: 0, or why [`read`] hands back nothing.
+pub fn read_number(sheet: &[u32], caller: Clinic, slot: SlotNumber) -> u32 {
+    // SAFETY: the pointer and length are of a live slice, which the library only reads.
+    unsafe { gelumbrio_read_number(sheet.as_ptr(), sheet.len(), caller, slot) }
+}
+
+/// Read: the part of the sheet that is the slot's used line words; 0..0 where it is refused.
+pub fn read(sheet: &[u32], caller: Clinic, slot: SlotNumber) -> Range<usize> {
+    // SAFETY: the pointer and length are of a live slice, which the library only reads.
+    let part = unsafe { gelumbrio_read(sheet.as_ptr(), sheet.len(), caller, slot) };
+    part.start..part.start.saturating_add(part.length)
+}
+
+/// Ruby place: the offset of the k-th ruby character from the start of its group.
+pub fn ruby_place(base_advance: u32, ruby_count: u32, size: u32, k: u32) -> RubyPlace {
+    // SAFETY: numbers go in and come out; no memory is shared.
+    unsafe { gelumbrio_ruby_place(base_advance, ruby_count, size, k) }
+}

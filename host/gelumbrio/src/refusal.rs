@@ -1,0 +1,136 @@
+//! Why a call is refused (document 01, "Refusal numbers, in the order they are checked").
+
+use std::error::Error;
+use std::fmt;
+
+/// A refusal, with its place where the table names one. A refused call changes no word.
+#[derive(Debug, Clone, Copy, PartialEq, Eq, Hash)]
+#[non_exhaustive]
+pub enum Refusal {
+    /// 1: the sheet's length, or a set-up list's, is wrong.
+    Length,
+    /// 2: the sheet has no such slot.
+    Slot,
+    /// 3: the slot is not the caller's.
+    Caller,
+    /// 4: what the slot holds is damaged.
+    Damaged,
+    /// 5: the place or the deletion passes the end.
+    PastEnd {
+        /// How many records the slot has.
+        count: u32,
+    },
+    /// 6: the inserted words are not whole records.
+    PartialRecord,
+    /// 7: more than 256 records would result.
+    TooManyRecords,
+    /// 8: a record breaks its own rules.
+    Record {
+        /// Its number after the edit.
+        record: u32,
+    },
+    /// 8, of ruby place, which names no record.
+    Ruby,
+    /// 9: a record breaks a group rule.
+    Group {
+        /// Its number after the edit.
+        record: u32,
+    },
+    /// 10: no breaking exists.
+    NoBreaking {
+        /// The first record of the run that is too wide.
+        record: u32,
+    },
+    /// 11: a clinic, measure or indent is out of limits.
+    Limits {
+        /// The slot it was meant for.
+        slot: u32,
+    },
+    /// A number that this version of the crate does not know.
+    Unlisted {
+        /// The number.
+        number: u32,
+        /// The place that came with it.
+        place: u32,
+    },
+}
+
+impl Refusal {
+    /// The refusal of this number and place, which is none for number 0.
+    pub(crate) fn new(number: u32, place: u32) -> Option<Refusal> {
+        Some(match number {
+            0 => return None,
+            1 => Refusal::Length,
+            2 => Refusal::Slot,
+            3 => Refusal::Caller,
+            4 => Refusal::Damaged,
+            5 => Refusal::PastEnd { count: place },
+            6 => Refusal::PartialRecord,
+            7 => Refusal::TooManyRecords,
+            8 => Refusal::Record { record: place },
+            9 => Refusal::Group { record: place },
+            10 => Refusal::NoBreaking { record: place },
+            11 => Refusal::Limits { slot: place },
+            _ => Refusal::Unlisted { number, place },
+        })
+    }
+
+    /// The number in document 01's table.
+    pub fn number(self) -> u32 {
+        match self {
+            Refusal::Length => 1,
+            Refusal::Slot => 2,
+            Refusal::Caller => 3,
+            Refusal::Damaged => 4,
+            Refusal::PastEnd { .. } => 5,
+            Refusal::PartialRecord => 6,
+            Refusal::TooManyRecords => 7,
+            Refusal::Record { .. } | Refusal::Ruby => 8,
+            Refusal::Group { .. } => 9,
+            Refusal::NoBreaking { .. } => 10,
+            Refusal::Limits { .. } => 11,
+            Refusal::Unlisted { number, .. } => number,
+        }
+    }
+}
+
+impl fmt::Display for Refusal {
+    fn fmt(&self, f: &mut fmt::Formatter<'_>) -> fmt::Result {
+        match self {
+            Refusal::Length => f.write_str(
+                "the sheet is not 1 to 64 slots of 2,824 words, or a set-up list has not one number per slot",
+            ),
+            Refusal::Slot => f.write_str("the sheet has no slot of that number"),
+            Refusal::Caller => f.write_str("the slot does not belong to the calling clinic"),
+            Refusal::Damaged => f.write_str("what the slot holds is damaged; only a set-up can empty it"),
+            Refusal::PastEnd { count } => {
+                write!(f, "the edit reaches past the slot's end; it has {count} records")
+            }
+            Refusal::PartialRecord => f.write_str("the inserted words are not whole records of 6 words"),
+            Refusal::TooManyRecords => f.write_str("the slot would have more than 256 records"),
+            Refusal::Record { record } => write!(
+                f,
+                "record {record} has a code point, class, size, advance, group or ruby count out of limits"
+            ),
+            Refusal::Ruby => {
+                f.write_str("a ruby place's base advance, ruby count, size or index is out of limits")
+            }
+            Refusal::Group { record } => write!(
+                f,
+                "record {record} differs in size or ruby count from its group, or is its group's seventeenth"
+            ),
+            Refusal::NoBreaking { record } => {
+                write!(
+                    f,
+                    "the text from record {record} to the next permitted break is wider than the measure"
+                )
+            }
+            Refusal::Limits { slot } => {
+                write!(f, "the clinic, measure or indent for slot {slot} is out of limits")
+            }
+            Refusal::Unlisted { number, place } => write!(f, "refused with number {number}, place {place}"),
+        }
+    }
+}
+
+impl Error for Refusal {}

@@ -1,0 +1,154 @@
+//! A sheet that owns its words (document 01, "The sheet").
+
+use crate::raw::{self, Answer, Clinic, SlotNumber};
+use crate::refusal::Refusal;
+
+/// The most slots a sheet may have.
+pub const MAX_SLOTS: usize = 64;
+/// The words of a slot.
+pub const SLOT_WORDS: usize = 2_824;
+/// The words of a record: code point, class, size, advance, group, ruby count.
+pub const RECORD_WORDS: usize = 6;
+/// Where a slot's records start, after its head.
+pub const RECORDS_AT: usize = 8;
+/// Where a slot's places start.
+pub const PLACES_AT: usize = RECORDS_AT + 256 * RECORD_WORDS;
+/// Where a slot's lines start.
+pub const LINES_AT: usize = PLACES_AT + 256 * 2;
+
+const RECORD_COUNT_AT: usize = 3;
+
+/// A sheet of 1 to 64 slots. A program should hold at most 5 on one sheet.
+#[derive(Debug, Clone, PartialEq, Eq)]
+pub struct Sheet {
+    words: Vec<u32>,
+}
+
+/// How a line ends.
+#[derive(Debug, Clone, Copy, PartialEq, Eq, Hash)]
+pub enum Kind {
+    /// At the measure.
+    Flush,
+    /// Before it, as nothing in the line could be stretched so far.
+    Short,
+    /// It is the paragraph's last line, which is never stretched.
+    Final,
+}
+
+/// A composed line.
+#[derive(Debug, Clone, PartialEq, Eq)]
+pub struct Line {
+    /// The number of its first record.
+    pub first_record: u32,
+    /// The x at which its last unit ends.
+    pub end_x: u32,
+    /// How it ends.
+    pub kind: Kind,
+    /// The x of each of its records.
+    pub xs: Vec<u32>,
+}
+
+impl Sheet {
+    /// A sheet of this many slots, none of them assigned. Call [`set_up`](Sheet::set_up) next.
+    pub fn new(slots: usize) -> Result<Sheet, Refusal> {
+        if !(1..=MAX_SLOTS).contains(&slots) {
+            return Err(Refusal::Length);
+        }
+        Ok(Sheet { words: vec![0; slots * SLOT_WORDS] })
+    }
+
+    /// A sheet of words that were kept, which may be any. Damage shows when a slot is edited.
+    pub fn from_words(words: Vec<u32>) -> Result<Sheet, Refusal> {
+        let slots = words.len() / SLOT_WORDS;
+        if !words.len().is_multiple_of(SLOT_WORDS) || !(1..=MAX_SLOTS).contains(&slots) {
+            return Err(Refusal::Length);
+        }
+        Ok(Sheet { words })
+    }
+
+    /// P, the number of slots.
+    pub fn slots(&self) -> usize {
+        self.words.len() / SLOT_WORDS
+    }
+
+    /// All words of the sheet.
+    pub fn words(&self) -> &[u32] {
+        &self.words
+    }
+
+    /// All words of the sheet, to be kept.
+    pub fn into_words(self) -> Vec<u32> {
+        self.words
+    }
+
+    /// Gives each slot its clinic, measure and indent and empties it. The lists have one number
+    /// for each slot.
+    pub fn set_up(&mut self, clinics: &[Clinic], measures: &[u32], indents: &[u32]) -> Result<(), Refusal> {
+        let clinics: Vec<u32> = clinics.iter().map(|clinic| clinic.0).collect();
+        accepted(raw::set_up(&mut self.words, &clinics, measures, indents)).map(|_slots| ())
+    }
+
+    /// Deletes records at a place, inserts others there and composes the slot anew. Place and
+    /// count are in records, `inserted` is in words. Says how many lines the slot has.
+    pub fn edit(
+        &mut self,
+        caller: Clinic,
+        slot: SlotNumber,
+        place: u32,
+        deleted: u32,
+        inserted: &[u32],
+    ) -> Result<u32, Refusal> {
+        accepted(raw::edit(&mut self.words, caller, slot, place, deleted, inserted))
+    }
+
+    /// The slot's used line words, three for each line: first record, end x and kind.
+    pub fn read(&self, caller: Clinic, slot: SlotNumber) -> Result<&[u32], Refusal> {
+        match Refusal::new(raw::read_number(&self.words, caller, slot), 0) {
+            Some(refusal) => Err(refusal),
+            // The part lies in the sheet: that much is proved of every accepted read.
+            None => Ok(&self.words[raw::read(&self.words, caller, slot)]),
+        }
+    }
+
+    /// The slot's lines with the x of every record. A read does not judge stored words; where they
+    /// are no composition, which can only be on a sheet of kept words, the slot is damaged.
+    pub fn lines(&self, caller: Clinic, slot: SlotNumber) -> Result<Vec<Line>, Refusal> {
+        let lines = self.read(caller, slot)?;
+        self.typed_lines(lines, slot).ok_or(Refusal::Damaged)
+    }
+
+    fn typed_lines(&self, lines: &[u32], slot: SlotNumber) -> Option<Vec<Line>> {
+        let (slots, _) = self.words.as_chunks::<SLOT_WORDS>();
+        let slot = slots.get(slot.0 as usize)?;
+        let (places, _) = slot[PLACES_AT..LINES_AT].as_chunks::<2>();
+        let places = places.get(..slot[RECORD_COUNT_AT] as usize)?;
+
+        let (lines, _) = lines.as_chunks::<3>();
+        let ends = lines.iter().skip(1).map(|&[first, ..]| first as usize).chain([places.len()]);
+        let typed = lines.iter().zip(ends).map(|(&[first, end_x, kind], end)| {
+            let places = places.get(first as usize..end)?;
+            let xs = places.iter().map(|&[x, _line]| x).collect();
+            Some(Line { first_record: first, end_x, kind: Kind::new(kind)?, xs })
+        });
+        typed.collect()
+    }
+}
+
+impl Kind {
+    fn new(word: u32) -> Option<Kind> {
+        match word {
+            1 => Some(Kind::Flush),
+            2 => Some(Kind::Short),
+            3 => Some(Kind::Final),
+            _ => None,
+        }
+    }
+}
+
+/// The place of an accepted call.
+fn accepted(answer: Answer) -> Result<u32, Refusal> {
+    match Refusal::new(answer.number, answer.place) {
+        Some(refusal) => Err(refusal),
+        None => Ok(answer.place),
+    }
+}

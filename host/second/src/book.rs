@@ -1,0 +1,137 @@
+//! The book of demand 3 (document 01, "The book of demand 3").
+//!
+//! It is fed the arguments of each call and the sheet's length, and nothing of the sheet's words.
+//! Before the first accepted set-up it has no slots, while the sheet may hold any words: what it
+//! then answers to an edit or a read says nothing of the sheet, except for numbers 1 and 2.
+
+use crate::answer::{Answer, Refusal};
+use crate::breaking::Setting;
+use crate::compose::compose;
+use crate::records::{spliced, Record};
+use crate::sheet::{check_caller, check_set_up, line_words, slot_count, slot_words};
+
+/// A slot of the book.
+#[derive(Debug, Clone)]
+struct Entry {
+    clinic: u32,
+    setting: Setting,
+    records: Vec<Record>,
+}
+
+/// What a read of the book answers.
+#[derive(Debug, Clone, PartialEq, Eq)]
+pub struct Reading {
+    /// The number of the read.
+    pub number: u32,
+    /// The line words; none where the read is refused.
+    pub words: Vec<u32>,
+}
+
+/// For each slot a clinic, a measure, an indent and its records in order.
+#[derive(Debug, Clone, Default)]
+pub struct Book {
+    entries: Vec<Entry>,
+}
+
+impl Book {
+    /// A book that has been fed no call.
+    pub fn new() -> Book {
+        Book::default()
+    }
+
+    /// Whether a set-up has been accepted, so that the book speaks for the sheet.
+    pub fn is_set_up(&self) -> bool {
+        !self.entries.is_empty()
+    }
+
+    /// How many records a slot has, if the book has that slot.
+    pub fn record_count(&self, slot: u32) -> Option<usize> {
+        self.entries.get(slot as usize).map(|entry| entry.records.len())
+    }
+
+    /// The clinic of a slot, if the book has that slot.
+    pub fn clinic(&self, slot: u32) -> Option<u32> {
+        self.entries.get(slot as usize).map(|entry| entry.clinic)
+    }
+
+    /// Set-up.
+    pub fn set_up(
+        &mut self,
+        sheet_length: usize,
+        clinics: &[u32],
+        measures: &[u32],
+        indents: &[u32],
+    ) -> Answer {
+        let outcome = check_set_up(sheet_length, clinics, measures, indents);
+        if outcome.is_ok() {
+            let lists = clinics.iter().zip(measures).zip(indents);
+            self.entries = lists
+                .map(|((&clinic, &measure), &indent)| Entry {
+                    clinic,
+                    setting: Setting { measure, indent },
+                    records: Vec::new(),
+                })
+                .collect();
+        }
+        Answer::from(outcome)
+    }
+
+    /// Edit.
+    pub fn edit(
+        &mut self,
+        sheet_length: usize,
+        caller: u32,
+        slot: u32,
+        place: u32,
+        deleted: u32,
+        inserted: &[u32],
+    ) -> Answer {
+        let outcome = self.callers_slot(sheet_length, caller, slot).and_then(|slot| {
+            let entry = &mut self.entries[slot];
+            let records = spliced(&entry.records, place, deleted, inserted)?;
+            let composition = compose(&records, entry.setting)?;
+            entry.records = records;
+            Ok(composition.lines.len())
+        });
+        Answer::from(outcome)
+    }
+
+    /// Read and its companion, which together are one read.
+    pub fn read(&self, sheet_length: usize, caller: u32, slot: u32) -> Reading {
+        let composed = self.callers_slot(sheet_length, caller, slot).and_then(|slot| {
+            let entry = &self.entries[slot];
+            compose(&entry.records, entry.setting)
+        });
+        match composed {
+            Ok(composition) => Reading { number: 0, words: line_words(&composition).flatten().collect() },
+            Err(refusal) => Reading { number: refusal.number(), words: Vec::new() },
+        }
+    }
+
+    /// The words that the sheet must hold: each slot composed from its records alone. Empty before
+    /// the first accepted set-up.
+    pub fn encode(&self) -> Vec<u32> {
+        self.entries.iter().flat_map(Entry::encode).collect()
+    }
+
+    /// The index of the slot, which is the caller's; otherwise answer 1, 2 or 3.
+    fn callers_slot(&self, sheet_length: usize, caller: u32, slot: u32) -> Result<usize, Refusal> {
+        let slot = slot as usize;
+        if slot >= slot_count(sheet_length)? {
+            return Err(Refusal::Slot);
+        }
+        // A slot that no set-up has assigned is nobody's.
+        let clinic = self.entries.get(slot).map_or(0, |entry| entry.clinic);
+        check_caller(caller, clinic)?;
+        Ok(slot)
+    }
+}
+
+impl Entry {
+    fn encode(&self) -> Vec<u32> {
+        let records: Vec<u32> = self.records.iter().flat_map(Record::encode).collect();
+        let Setting { measure, indent } = self.setting;
+        // The book only keeps what it accepted, so there is always a composition.
+        slot_words(self.clinic, measure, indent, &records).unwrap_or_default()
+    }
+}

@@ -1,0 +1,97 @@
+//! A whole paragraph: its lines and the place of each record (document 01, "The sheet").
+
+use std::ops::Range;
+
+use crate::adjust::{adjust, Kind};
+use crate::answer::Refusal;
+use crate::breaking::{Breaker, Setting};
+use crate::records::{first_group_fault, Record};
+use crate::units::units;
+
+/// Where a record stands.
+#[derive(Debug, Clone, Copy, PartialEq, Eq)]
+pub struct Place {
+    /// Its x.
+    pub x: u32,
+    /// The number of its line.
+    pub line: usize,
+}
+
+/// A composed line.
+#[derive(Debug, Clone, Copy, PartialEq, Eq)]
+pub struct Line {
+    /// The number of its first record.
+    pub first: usize,
+    /// The x at which its last unit ends.
+    pub end_x: u32,
+    /// Its kind.
+    pub kind: Kind,
+}
+
+/// A composed paragraph.
+#[derive(Debug, Clone, Default, PartialEq, Eq)]
+pub struct Composition {
+    /// The place of each record.
+    pub places: Vec<Place>,
+    /// The lines.
+    pub lines: Vec<Line>,
+}
+
+/// Whether these records can be composed; otherwise answer 9 or 10.
+pub fn check(records: &[Record], setting: Setting) -> Result<(), Refusal> {
+    check_groups(records)?;
+    check_breaking(&Breaker::new(&units(records), setting))
+}
+
+/// The paragraph of these records, or answer 9 or 10.
+pub fn compose(records: &[Record], setting: Setting) -> Result<Composition, Refusal> {
+    check_groups(records)?;
+    let units = units(records);
+    let breaker = Breaker::new(&units, setting);
+    check_breaking(&breaker)?;
+
+    let lines = breaker.lines();
+    let mut composition =
+        Composition { places: Vec::with_capacity(records.len()), lines: Vec::with_capacity(lines.len()) };
+    for line in lines {
+        composition.add_line(&breaker, line, setting.measure);
+    }
+    Ok(composition)
+}
+
+fn check_groups(records: &[Record]) -> Result<(), Refusal> {
+    first_group_fault(records).map_or(Ok(()), |at| Err(Refusal::Group(at)))
+}
+
+fn check_breaking(breaker: &Breaker) -> Result<(), Refusal> {
+    let wide = breaker.first_wide_run();
+    wide.map_or(Ok(()), |at| Err(Refusal::NoBreaking(at)))
+}
+
+impl Composition {
+    /// Sets the next line, which holds these units.
+    fn add_line(&mut self, breaker: &Breaker, line: Range<usize>, measure: u32) {
+        let start_x = breaker.start_x(line.start);
+        let is_final = line.end == breaker.units.len();
+        let gaps = &breaker.gaps[line.start..line.end - 1];
+        let units = &breaker.units[line];
+
+        let advances: u32 = units.iter().map(|unit| unit.advance).sum();
+        let spaces: u32 = gaps.iter().map(|gap| gap.space.natural).sum();
+        let adjusted = adjust(gaps, start_x + advances + spaces, measure, is_final);
+
+        let number = self.lines.len();
+        let first = self.places.len();
+        let mut x = start_x;
+        let mut end_x = start_x;
+        // No space is set after the last unit.
+        let spaces_after = adjusted.widths.iter().chain(&[0]);
+        for (unit, space) in units.iter().zip(spaces_after) {
+            let places = unit.record_offsets().map(|offset| Place { x: x + offset, line: number });
+            self.places.extend(places);
+            end_x = x + unit.advance;
+            x = end_x + space;
+        }
+        self.lines.push(Line { first, end_x, kind: adjusted.kind });
+    }
+}

@@ -1,0 +1,36 @@
+//! The second program: document 01's rules in objects and vectors.
+//!
+//! It works on the same raw words as the proved program and shares no code with it, so that the
+//! two can be run side by side. One module holds one part of document 01:
+//!
+//! | Module | Document 01 |
+//! |---|---|
+//! | [`answer`] | "Refusal numbers, in the order they are checked" |
+//! | [`records`] | "Records and groups", a record's own rules and the group rules |
+//! | [`units`] | "Records and groups", units and the two rows of a group |
+//! | [`spacing`] | "Space between units", and how far each space gives way |
+//! | [`breaking`] | "Breaks and adjustment", where lines end |
+//! | [`adjust`] | "Breaks and adjustment", how a line is brought to the measure |
+//! | [`compose`] | the lines and places of a whole paragraph |
+//! | [`sheet`] | "The sheet", its layout and its calls |
+//! | [`book`] | "The book of demand 3" |
+//!
+//! No input makes a call panic. Sums stay far below 2^32: a paragraph has at most 256 units, a
+//! unit's advance is at most 128,000 (64 ruby characters of size 2,000), a space at most 3,000 and
+//! an indent below 1,000,000. Products are taken in 64 bits.
+
+#![forbid(unsafe_code)]
+
+pub mod adjust;
+pub mod answer;
+pub mod book;
+pub mod breaking;
+pub mod compose;
+pub mod records;
+pub mod sheet;
+pub mod spacing;
+pub mod units;
+
+pub use answer::{Answer, RubyPlace};
+pub use sheet::{edit, read, read_number, set_up, slot_words};
+pub use units::ruby_place;

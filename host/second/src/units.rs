@@ -1,0 +1,147 @@
+//! Units, and how the two rows of a group stand (document 01, "Records and groups").
+
+use crate::answer::{Refusal, RubyPlace};
+use crate::records::{ruby_count_in_limits, size_in_limits, Class, Record};
+
+/// The largest base advance of a group: 16 records of size 4,000.
+const MAX_BASE_ADVANCE: u32 = 64_000;
+
+/// A unit: a group, or a single record outside groups.
+#[derive(Debug, Clone, Copy)]
+pub struct Unit<'a> {
+    /// The number of its first record in the paragraph.
+    pub first: usize,
+    /// Its records; never empty.
+    records: &'a [Record],
+    /// Its record's class; 19 for a group.
+    pub class: Class,
+    /// The size of each of its records.
+    pub size: u32,
+    /// Its width: for a group, the longer row's.
+    pub advance: u32,
+}
+
+impl<'a> Unit<'a> {
+    /// The unit of `record` and those that follow it in its group.
+    fn new(first: usize, record: &Record, records: &'a [Record]) -> Unit<'a> {
+        let is_group = record.group != 0;
+        let base: u32 = records.iter().map(|r| r.advance).sum();
+        // Outside groups the ruby count is 0, so the base is the longer row there too.
+        let ruby = ruby_advance(record.ruby_count, record.size);
+        Unit {
+            first,
+            records,
+            class: if is_group { Class::IDEOGRAPHIC } else { record.class },
+            size: record.size,
+            advance: base.max(ruby),
+        }
+    }
+
+    /// The offset of each of its records from the unit's x.
+    pub fn record_offsets(&self) -> impl Iterator<Item = u32> + '_ {
+        let count = self.records.len() as u32;
+        let total: u32 = self.records.iter().map(|r| r.advance).sum();
+        let shortfall = self.advance - total;
+        let mut solid = 0;
+        (0..count).zip(self.records).map(move |(k, record)| {
+            let offset = solid + opening(shortfall, k, count);
+            solid += record.advance;
+            offset
+        })
+    }
+
+    /// Whether both are a single record of one code point.
+    pub fn same_code_point(&self, other: &Unit) -> bool {
+        match (self.records, other.records) {
+            ([a], [b]) => a.code_point == b.code_point,
+            _ => false,
+        }
+    }
+}
+
+/// The units of a paragraph, in order.
+pub fn units(records: &[Record]) -> Vec<Unit<'_>> {
+    let mut units = Vec::with_capacity(records.len());
+    let mut first = 0;
+    for chunk in records.chunk_by(Record::joins) {
+        units.extend(chunk.first().map(|record| Unit::new(first, record, chunk)));
+        first += chunk.len();
+    }
+    units
+}
+
+/// The width of a row of ruby characters, each half the size.
+fn ruby_advance(count: u32, size: u32) -> u32 {
+    count * (size / 2)
+}
+
+/// How far item k of n in the shorter row is moved from its solid offset, where the row falls short
+/// of the other by D: floor(D(2k+1)/(2n)). The longer row has D = 0 and is solid.
+fn opening(shortfall: u32, k: u32, n: u32) -> u32 {
+    if shortfall == 0 {
+        return 0;
+    }
+    let moved = u64::from(shortfall) * (2 * u64::from(k) + 1) / (2 * u64::from(n));
+    moved as u32
+}
+
+/// The offset of the k-th ruby character from the start of its group (document 01, "The sheet").
+pub fn ruby_place(base_advance: u32, ruby_count: u32, size: u32, k: u32) -> RubyPlace {
+    let in_limits = size_in_limits(size)
+        && ruby_count_in_limits(ruby_count)
+        && k < ruby_count
+        && (1..=MAX_BASE_ADVANCE).contains(&base_advance);
+    if !in_limits {
+        return RubyPlace { number: Refusal::Record(0).number(), offset: 0 };
+    }
+    let shortfall = base_advance.saturating_sub(ruby_advance(ruby_count, size));
+    RubyPlace { number: 0, offset: ruby_advance(k, size) + opening(shortfall, k, ruby_count) }
+}
+
+#[cfg(test)]
+mod tests {
+    use super::*;
+
+    fn record(class: u32, group: u32, ruby_count: u32) -> Record {
+        Record {
+            code_point: 0x3042,
+            class: Class::new(class).unwrap(),
+            size: 80,
+            advance: 80,
+            group,
+            ruby_count,
+        }
+    }
+
+    #[test]
+    fn neighbours_of_one_group_are_one_unit() {
+        let groups = [0, 0, 1, 1, 2, 1, 0];
+        let records = groups.map(|group| record(15, group, u32::from(group != 0)));
+        let units = units(&records);
+        let firsts: Vec<usize> = units.iter().map(|unit| unit.first).collect();
+        assert_eq!(firsts, [0, 1, 2, 4, 5, 6]);
+        let classes: Vec<u8> = units.iter().map(|unit| unit.class.number()).collect();
+        assert_eq!(classes, [15, 15, 19, 19, 19, 15]);
+    }
+
+    #[test]
+    fn the_longer_row_gives_the_advance() {
+        let advance = |ruby_count| units(&[record(19, 1, ruby_count); 2])[0].advance;
+        assert_eq!([1, 4, 5, 64].map(advance), [160, 160, 200, 2_560]);
+    }
+
+    #[test]
+    fn the_shorter_base_row_is_opened() {
+        let offsets = |ruby_count, records| {
+            let records = vec![record(16, 1, ruby_count); records];
+            let unit = units(&records)[0];
+            unit.record_offsets().collect::<Vec<u32>>()
+        };
+        assert_eq!(offsets(3, 2), [0, 80]);
+        assert_eq!(offsets(5, 2), [10, 110]);
+        // D = 120, n = 3: 20, 60 and 100 beside the solid 0, 80 and 160.
+        assert_eq!(offsets(9, 3), [20, 140, 260]);
+        // D = 40, n = 3: 6, 20 and 33.
+        assert_eq!(offsets(7, 3), [6, 100, 193]);
+    }
+}

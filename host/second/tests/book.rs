@@ -1,0 +1,147 @@
+//! The book against the calls (document 01, "The book of demand 3"), on random sequences.
+
+mod common;
+
+use common::{flat, random_records, Random};
+use second::book::Book;
+use second::sheet::SLOT_WORDS;
+use second::{edit, read, read_number, set_up};
+
+const SEEDS: std::ops::Range<u64> = 1..201;
+const CALLS: u32 = 100;
+
+struct Run {
+    random: Random,
+    sheet: Vec<u32>,
+    book: Book,
+    /// How often each number was answered.
+    numbers: [u32; 12],
+}
+
+impl Run {
+    fn new(seed: u64) -> Run {
+        let mut random = Random(seed);
+        let slots = 1 + random.below(5) as usize;
+        let sheet = (0..slots * SLOT_WORDS).map(|_| random.next() as u32).collect();
+        Run { random, sheet, book: Book::new(), numbers: [0; 12] }
+    }
+
+    fn slots(&self) -> usize {
+        self.sheet.len() / SLOT_WORDS
+    }
+
+    fn set_up(&mut self) {
+        let random = &mut self.random;
+        let mut slots = self.sheet.len() / SLOT_WORDS;
+        if random.once_in(8) {
+            slots += 1;
+        }
+        let clinics: Vec<u32> = (0..slots).map(|_| random.below(4)).collect();
+        let mut measures: Vec<u32> = (0..slots).map(|_| 200 + random.below(800)).collect();
+        let indents: Vec<u32> = (0..slots).map(|_| random.below(40)).collect();
+        if random.once_in(8) {
+            measures[random.below(slots as u32) as usize] = 7;
+        }
+        let answer = set_up(&mut self.sheet, &clinics, &measures, &indents);
+        assert_eq!(answer, self.book.set_up(self.sheet.len(), &clinics, &measures, &indents));
+        self.numbers[answer.number as usize] += 1;
+    }
+
+    /// Mostly a slot of the sheet and its own clinic.
+    fn caller_and_slot(&mut self) -> (u32, u32) {
+        let slots = self.slots() as u32 + u32::from(self.random.once_in(10));
+        let slot = self.random.below(slots);
+        let clinic = self.sheet.get(slot as usize * SLOT_WORDS).copied();
+        let own = clinic.filter(|_| !self.random.once_in(10));
+        (own.unwrap_or_else(|| self.random.below(4)), slot)
+    }
+
+    fn edit(&mut self) {
+        let (caller, slot) = self.caller_and_slot();
+        let random = &mut self.random;
+        let count = self.book.record_count(slot).unwrap_or(0) as u32;
+        let place = random.below(count + 1);
+        let deleted = random.below((count - place).min(20) + 1) + u32::from(random.once_in(20)) * 50;
+        let inserting = random.below(60);
+        let mut inserted = flat(&random_records(random, inserting));
+        if random.once_in(30) {
+            inserted.push(0);
+        }
+        if random.once_in(20) && !inserted.is_empty() {
+            let at = random.below(inserted.len() as u32) as usize;
+            inserted[at] = random.one_of(&[0, 1, 80, 65_536, u32::MAX]);
+        }
+        let answer = edit(&mut self.sheet, caller, slot, place, deleted, &inserted);
+        let book = &mut self.book;
+        let expected = book.edit(self.sheet.len(), caller, slot, place, deleted, &inserted);
+        assert_eq!(answer, expected);
+        self.numbers[answer.number as usize] += 1;
+    }
+
+    fn read(&mut self) {
+        let (caller, slot) = self.caller_and_slot();
+        let reading = self.book.read(self.sheet.len(), caller, slot);
+        assert_eq!(read_number(&self.sheet, caller, slot), reading.number);
+        assert_eq!(self.sheet[read(&self.sheet, caller, slot)], reading.words);
+    }
+
+    /// One slot's edits give what the single edit of all its records gives.
+    fn check_single_edits(&self) {
+        let fresh: Vec<u32> = self.sheet.chunks(SLOT_WORDS).flat_map(fresh_of).collect();
+        for (i, slot) in self.sheet.chunks(SLOT_WORDS).enumerate() {
+            let mut single = fresh.clone();
+            let records = &slot[8..][..6 * slot[3] as usize];
+            if records.is_empty() || slot[0] == 0 {
+                continue;
+            }
+            let answer = edit(&mut single, slot[0], i as u32, 0, 0, records);
+            assert_eq!((answer.number, answer.place), (0, slot[4]));
+            assert_eq!(&single[i * SLOT_WORDS..][..SLOT_WORDS], slot);
+        }
+    }
+}
+
+fn fresh_of(slot: &[u32]) -> Vec<u32> {
+    let mut fresh = vec![0; SLOT_WORDS];
+    fresh[..3].copy_from_slice(&slot[..3]);
+    fresh
+}
+
+#[test]
+fn the_book_answers_as_the_calls_and_knows_every_word() {
+    println!("seeds {SEEDS:?}, {CALLS} calls each");
+    let mut numbers = [0; 12];
+    for seed in SEEDS {
+        let mut run = Run::new(seed);
+        while !run.book.is_set_up() {
+            run.set_up();
+        }
+        for _ in 0..CALLS {
+            match run.random.below(40) {
+                0 => run.set_up(),
+                1..=30 => run.edit(),
+                _ => run.read(),
+            }
+            assert_eq!(run.book.encode(), run.sheet, "seed {seed}");
+        }
+        assert!(run.slots() <= 5);
+        run.check_single_edits();
+        numbers.iter_mut().zip(run.numbers).for_each(|(sum, n)| *sum += n);
+    }
+    println!("answers by number: {numbers:?}");
+    for (number, count) in numbers.iter().enumerate() {
+        assert_eq!(*count > 0, number != 4, "number {number}");
+    }
+}
+
+#[test]
+fn before_set_up_the_book_has_no_slots() {
+    let mut book = Book::new();
+    assert!(!book.is_set_up());
+    assert_eq!(book.encode(), []);
+    assert_eq!(book.set_up(SLOT_WORDS, &[1], &[7], &[0]).number, 11);
+    assert_eq!(book.edit(SLOT_WORDS + 1, 1, 0, 0, 0, &[]).number, 1);
+    assert_eq!(book.edit(SLOT_WORDS, 1, 1, 0, 0, &[]).number, 2);
+    assert_eq!(book.edit(SLOT_WORDS, 1, 0, 0, 0, &[]).number, 3);
+    assert_eq!(book.read(SLOT_WORDS, 1, 0).number, 3);
+}

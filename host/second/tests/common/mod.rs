@@ -1,0 +1,115 @@
+//! Records, slots and random numbers for the tests.
+
+// Each test file uses a part of these.
+#![allow(dead_code)]
+
+use second::sheet::SLOT_WORDS;
+
+pub type Words = [u32; 6];
+
+pub const CLINIC: u32 = 7;
+
+/// A record outside groups.
+pub fn record(class: u32, size: u32, advance: u32) -> Words {
+    [0x3042, class, size, advance, 0, 0]
+}
+
+/// A record outside groups with the advance that its class asks for, or half the size.
+pub fn plain(class: u32, size: u32) -> Words {
+    let halved = matches!(class, 1 | 2 | 3 | 5 | 6 | 7 | 27);
+    record(class, size, if halved { size / 2 } else { size })
+}
+
+/// An ideograph of size 80: document 01's K.
+pub fn k() -> Words {
+    plain(19, 80)
+}
+
+/// A record of class 19 in a group.
+pub fn grouped(size: u32, group: u32, ruby_count: u32) -> Words {
+    [0x6F22, 19, size, size, group, ruby_count]
+}
+
+pub fn flat(records: &[Words]) -> Vec<u32> {
+    records.concat()
+}
+
+/// A sheet of one slot, set up for `CLINIC`.
+pub fn one_slot(measure: u32, indent: u32) -> Vec<u32> {
+    let mut sheet = vec![0; SLOT_WORDS];
+    let answer = second::set_up(&mut sheet, &[CLINIC], &[measure], &[indent]);
+    assert_eq!((answer.number, answer.place), (0, 1));
+    sheet
+}
+
+/// The answer of an edit as number and place.
+pub fn edit(
+    sheet: &mut [u32],
+    caller: u32,
+    slot: u32,
+    place: u32,
+    deleted: u32,
+    inserted: &[u32],
+) -> (u32, u32) {
+    let answer = second::edit(sheet, caller, slot, place, deleted, inserted);
+    (answer.number, answer.place)
+}
+
+/// The answer of inserting records into an empty slot.
+pub fn compose(records: &[Words], measure: u32, indent: u32) -> (u32, u32) {
+    let mut sheet = one_slot(measure, indent);
+    edit(&mut sheet, CLINIC, 0, 0, 0, &flat(records))
+}
+
+/// Splitmix64: every seed gives a sequence of its own.
+pub struct Random(pub u64);
+
+impl Random {
+    pub fn next(&mut self) -> u64 {
+        self.0 = self.0.wrapping_add(0x9E37_79B9_7F4A_7C15);
+        let mut z = self.0;
+        z = (z ^ (z >> 30)).wrapping_mul(0xBF58_476D_1CE4_E5B9);
+        z = (z ^ (z >> 27)).wrapping_mul(0x94D0_49BB_1331_11EB);
+        z ^ (z >> 31)
+    }
+
+    /// A number below `n`.
+    pub fn below(&mut self, n: u32) -> u32 {
+        (self.next() % u64::from(n)) as u32
+    }
+
+    pub fn one_of<T: Copy>(&mut self, items: &[T]) -> T {
+        items[self.below(items.len() as u32) as usize]
+    }
+
+    /// True once in `n` times.
+    pub fn once_in(&mut self, n: u32) -> bool {
+        self.below(n) == 0
+    }
+}
+
+/// Random records that keep their own rules; groups among them.
+pub fn random_records(random: &mut Random, count: u32) -> Vec<Words> {
+    const CLASSES: [u32; 18] = [1, 2, 3, 4, 5, 6, 7, 8, 9, 10, 11, 12, 13, 14, 15, 16, 19, 27];
+    let mut records = Vec::new();
+    while (records.len() as u32) < count {
+        let size = random.one_of(&[8, 16, 24, 80]);
+        if random.once_in(5) {
+            let (group, ruby) = (1 + random.below(4), 1 + random.below(9));
+            for _ in 0..1 + random.below(5) {
+                records.push(grouped(size, group, ruby));
+            }
+        } else {
+            let common = random.once_in(2);
+            let class = if common { 19 } else { random.one_of(&CLASSES) };
+            let mut record = plain(class, size);
+            record[0] += random.below(2);
+            if class == 27 {
+                record[3] = 1 + random.below(2 * size);
+            }
+            records.push(record);
+        }
+    }
+    records.truncate(count as usize);
+    records
+}
