@@ -1,0 +1,78 @@
+// The calls for programs in C and Rust. A slice passes as a pointer, then its length in words. The header that declares them
+// is include/gelumbrio.h.
+use sheet::Answer;
+use sheet::Clinic;
+use sheet::RubyPlace;
+use sheet::SlotNumber;
+ghost use mathlib.Core.Path.{_≡_};
+ghost use Rattle.rules.specs.Groups.{rubyPlace};
+ghost use Rattle.rules.specs.Refusals.{says, setUp, edit, readNumber, readStart, readLength};
+
+// A part of the sheet, in words: an export cannot return a reference.
+#[repr(C)]
+pub struct Part {
+    pub start: usize,
+    pub length: usize,
+}
+
+#[no_mangle]
+pub extern "C" fn gelumbrio_set_up(
+    sheet: &mut [u32],
+    clinics: &[u32],
+    measures: &[u32],
+    indents: &[u32],
+) -> Answer
+    ensures { λ r. ⌜ (says (r .number) (r .place), now (sheet .exit)) ≡ setUp (now (sheet .entry)) (now (clinics .entry)) (now (measures .entry)) (now (indents .entry)) ⌝ }
+{
+    sheet::set_up(sheet, clinics, measures, indents)
+}
+
+#[no_mangle]
+pub extern "C" fn gelumbrio_edit(
+    sheet: &mut [u32],
+    caller: Clinic,
+    slot: SlotNumber,
+    place: u32,
+    deleted: u32,
+    inserted: &[u32],
+) -> Answer
+    ensures { λ r. ⌜ (says (r .number) (r .place), now (sheet .exit)) ≡ edit (now (sheet .entry)) (caller .0) (slot .0) place deleted (now (inserted .entry)) ⌝ }
+{
+    sheet::edit(sheet, caller, slot, place, deleted, inserted)
+}
+
+#[no_mangle]
+pub extern "C" fn gelumbrio_read_number(sheet: &[u32], caller: Clinic, slot: SlotNumber) -> u32
+    ensures { λ r. ⌜ r ≡ readNumber (now (sheet .entry)) (caller .0) (slot .0) ⌝ }
+{
+    sheet::read_number(sheet, caller, slot)
+}
+
+#[no_mangle]
+pub extern "C" fn gelumbrio_read(sheet: &[u32], caller: Clinic, slot: SlotNumber) -> Part
+    ensures { λ r. ⌜ (r .start ≡ readStart (now (sheet .entry)) (caller .0) (slot .0)) × (r .length ≡ readLength (now (sheet .entry)) (caller .0) (slot .0)) ⌝ }
+{
+    if sheet::read_number(sheet, caller, slot) != 0 {
+        return Part {
+            start: 0,
+            length: 0,
+        };
+    }
+    let part = sheet::read(sheet, caller, slot);
+    Part {
+        start: 2824 * slot.0 as usize + 2056,
+        length: part.len(),
+    }
+}
+
+#[no_mangle]
+pub extern "C" fn gelumbrio_ruby_place(
+    base_advance: u32,
+    ruby_count: u32,
+    size: u32,
+    k: u32,
+) -> RubyPlace
+    ensures { λ r. ⌜ (r .number, r .offset) ≡ rubyPlace «base_advance» «ruby_count» size k ⌝ }
+{
+    sheet::ruby_place(base_advance, ruby_count, size, k)
+}

@@ -1,0 +1,210 @@
+-- What an accepted edit does on a sheet of any words, and when answer 10 is given. Assumes nothing.
+use mathlib.Core.Path.{_≡_, refl, sym, ap, _∙_}
+use Prim.Native.Nat.{ℕ, _+_, _-_, _≤_}
+use native.Mathlib.Omega.{arith}
+use mathlib.Core.Bool.{true}
+use mathlib.Core.List.{List}
+use mathlib.Core.Logic.{_⊎_, inl, inr, _↔_}
+use mathlib.Core.Option.{Option, none, some}
+use lib.Dec.{ltb}
+use lib.ListN.{length, drop}
+use borrow.Author.Tests.{eq-eqb, ltb-false}
+use Rattle.rules.specs.Basics.{Run}
+use Rattle.rules.specs.Records.{Rec, badRecord}
+use Rattle.rules.specs.Groups.{TextUnit, groupFault, units}
+use Rattle.rules.specs.Breaks.{runs, noBreaking}
+use Rattle.rules.specs.Adjustment.{compose}
+use Rattle.rules.specs.Sheet.{lineWords, slotWords, clinicOf, measureOf, indentOf, countOf, lineCountOf, recordsOf}
+use Rattle.rules.specs.Sheet.{slotAt}
+use Rattle.rules.specs.Refusals.{Answer, says, Outcome, orElse, judged, edited, slotRows, editSlot}
+use Rattle.rules.specs.Refusals.{callRows, called, edit, readNumber, readWords}
+use Rattle.rules.specs.Meanings.{Choice, Fits, FirstWide}
+use Rattle.rules.proofs.Claims.{no-10-exactly, answer-10}
+use Rattle.sheet.specs.Meanings.{Spliced}
+use Rattle.sheet.proofs.Tables.{same-number, lacking, passed, under-table}
+use Rattle.sheet.proofs.Entry.{or-right, number-0, read-slot}
+use Rattle.rules.proofs.Lengths.{composed-few}
+use Rattle.sheet.proofs.Words.{slot-records, slot-clinic, slot-line-count, slot-lines}
+use Rattle.sheet.proofs.Slots.{length-records}
+use Rattle.sheet.proofs.Alike.{called-alike}
+use Rattle.sheet.proofs.Frame.{Edited, entering, refusing, edit-cases, edit-length, edited-few}
+use Rattle.sheet.proofs.Frame.{room, length-outcome, slot-with}
+
+-- Judged ------------------------------------------------------------------------------------------------------------
+
+abbrev by : Option ℕ → Option ℕ → Option ℕ → ℕ → Answer
+by p q r n = orElse 8 p (orElse 9 q (orElse 10 r (says 0 n)))
+
+by-0 : (p q r : Option ℕ) (n : ℕ) → by p q r n .number ≡ 0 → (r ≡ none) × (by p q r n ≡ says 0 n)
+by-0 none none none n e = (refl, refl)
+by-0 none none (some i) n e = absurd (omega (arith, e))
+by-0 none (some i) r n e = absurd (omega (arith, e))
+by-0 (some i) q r n e = absurd (omega (arith, e))
+
+by-10 : (p q r : Option ℕ) (n : ℕ) → by p q r n .number ≡ 10 → r ≡ some (by p q r n .place)
+by-10 none none none n e = absurd (omega (arith, e))
+by-10 none none (some i) n e = refl
+by-10 none (some i) r n e = absurd (omega (arith, e))
+by-10 (some i) q r n e = absurd (omega (arith, e))
+
+module _ (m x : ℕ) (rs : List Rec) where
+  judged-0 : judged m x rs .number ≡ 0 →
+      (noBreaking m x (units rs) ≡ none) × (judged m x rs ≡ says 0 (length (compose m x (units rs))))
+  unfolding judged
+  judged-0 e = by-0 (badRecord 0 rs) (groupFault rs) _ _ e
+
+  judged-10 : judged m x rs .number ≡ 10 → noBreaking m x (units rs) ≡ some (judged m x rs .place)
+  unfolding judged
+  judged-10 e = by-10 (badRecord 0 rs) (groupFault rs) _ _ e
+
+-- One slot ----------------------------------------------------------------------------------------------------------
+
+module _ (s : List ℕ) (place deleted : ℕ) (inserted : List ℕ) where
+  abbrev done : Outcome
+  done = editSlot s place deleted inserted
+
+  abbrev new : List Rec
+  new = edited s place deleted inserted
+
+  abbrev composed : List ℕ
+  composed = slotWords (clinicOf s) (measureOf s) (indentOf s) new
+
+  abbrev lineCount : ℕ
+  lineCount = length (compose (measureOf s) (indentOf s) (units new))
+
+  -- where the rows 4 to 7 do not apply, the stretch is within the records and the answer is the new records' own
+  pub record Judged : Type 0 where
+    pub fits : place + deleted ≤ length (recordsOf s)
+    pub answer : done .0 ≡ judged (measureOf s) (indentOf s) new
+
+  slot-judged : (n : ℕ) → lacking n (slotRows s place deleted inserted) ≡ true → done .0 .number ≡ n → Judged
+  unfolding editSlot slotRows
+  slot-judged n l z =
+      let p = passed n (slotRows s place deleted inserted) _ l z .0 in
+      let c : place + deleted ≤ countOf s = ltb-false _ _ (or-right (ltb (countOf s) place) _ (p .1 .0)) in
+      record {
+        fits = omega (arith, length-records (drop 8 s) 0 (countOf s));
+        answer = under-table (slotRows s place deleted inserted) _ p;
+      }
+
+  -- accepted
+  accepted-few : done .0 .number ≡ 0 → length new ≤ 256
+  unfolding editSlot
+  accepted-few z = edited-few s place deleted inserted z
+
+  slot-accepted : done .0 .number ≡ 0 → done ≡ (says 0 lineCount, composed)
+  unfolding editSlot slotRows
+  slot-accepted z =
+      let j = slot-judged 0 refl z .answer in
+      let a = judged-0 (measureOf s) (indentOf s) new (same-number (sym j) ∙ z) .1 in
+      rw (eq-eqb _ _ z) (ap (λ (o : Answer). (o, composed)) (j ∙ a))
+
+  slot-spliced : {o : Outcome} → place + deleted ≤ length (recordsOf s) →
+      _≡_ {A = Outcome} o (says 0 lineCount, composed) → Spliced s (o .1) (o .0) place deleted inserted
+  slot-spliced h e =
+      rw e
+      (let r = slot-records (clinicOf s) (measureOf s) (indentOf s) new in
+      record {
+        fits = h;
+        changed = r;
+        composed = ap (slotWords (clinicOf s) (measureOf s) (indentOf s)) (sym r);
+        lines = ap (λ rs. length (compose (measureOf s) (indentOf s) (units rs))) (sym r);
+      })
+
+-- The sheet ---------------------------------------------------------------------------------------------------------
+
+module _ (ws : List ℕ) (caller k place deleted : ℕ) (inserted : List ℕ) where
+  abbrev before : List ℕ
+  before = slotAt ws k
+
+  abbrev m : ℕ
+  m = measureOf before
+
+  abbrev x : ℕ
+  x = indentOf before
+
+  abbrev us : List TextUnit
+  us = units (edited before place deleted inserted)
+
+  abbrev inSlot : Outcome
+  inSlot = editSlot before place deleted inserted
+
+  abbrev out : Outcome
+  out = edit ws caller k place deleted inserted
+
+  -- an answer that the rows 1 to 3 do not give is the slot's
+  pub record FromSlot (n : ℕ) (o : Outcome) : Type 0 where
+    pub entry : called ws caller k .number ≡ 0
+    pub number : inSlot .0 .number ≡ n
+    pub answer : o .0 ≡ inSlot .0
+    pub slot : slotAt (o .1) k ≡ inSlot .1
+
+  from-slot : (n : ℕ) → lacking n (callRows ws caller k) ≡ true → out .0 .number ≡ n → FromSlot n out
+  unfolding called
+  from-slot n l z = from (edit-cases ws caller k place deleted inserted) z
+    where
+      from : {o : Outcome} → Edited ws caller k place deleted inserted o → o .0 .number ≡ n → FromSlot n o
+      from (entering e) z =
+          let r = room ws caller k place deleted inserted e in
+          let w = length-outcome ws caller k place deleted inserted e in
+          record { entry = e; number = z; answer = refl; slot = slot-with ws k (inSlot .1) r w }
+      from (refusing e) z = absurd (e (z ∙ sym (passed n (callRows ws caller k) (says 0 0) l z .1)))
+
+  -- an accepted edit
+  pub accepted-edit : out .0 .number ≡ 0 → Spliced before (slotAt (out .1) k) (out .0) place deleted inserted
+  unfolding callRows slotRows
+  accepted-edit z =
+      let f = from-slot 0 refl z in
+      let h = slot-judged before place deleted inserted 0 refl (f .number) .fits in
+      let a = slot-accepted before place deleted inserted (f .number) in
+      rw (f .answer, f .slot) (slot-spliced before place deleted inserted h a)
+
+  -- a read after it, by the same caller, hands back the line words of the composed records
+  pub read-after : out .0 .number ≡ 0 →
+      (readNumber (out .1) caller k ≡ 0) × (readWords (out .1) caller k ≡ lineWords 0 (compose m x us))
+  unfolding callRows
+  read-after z =
+      let f = from-slot 0 refl z in
+      let rs = edited before place deleted inserted in
+      let few = accepted-few before place deleted inserted (f .number) in
+      let s : slotAt (out .1) k ≡ slotWords (clinicOf before) m x rs
+      = f .slot ∙ ap (λ (o : Outcome). o .1) (slot-accepted before place deleted inserted (f .number)) in
+      let clinic : clinicOf (slotAt (out .1) k) ≡ clinicOf before
+      = ap clinicOf s ∙ slot-clinic (clinicOf before) m x rs in
+      let called-again : called (out .1) caller k ≡ called ws caller k
+      = called-alike (out .1) ws caller k (edit-length ws caller k place deleted inserted) (λ h. clinic) in
+      let lines : lineCountOf (slotAt (out .1) k) ≤ 256
+      = rw (s, slot-line-count) (omega (arith, composed-few m x rs)) in
+      let n = number-0 (out .1) caller k (same-number called-again ∙ f .entry) lines in
+      (n, read-slot (out .1) caller k n ∙ rw (s, slot-line-count) (slot-lines (clinicOf before) m x rs few))
+
+  -- Answer 10
+
+  pub found-0 : out .0 .number ≡ 0 → noBreaking m x us ≡ none
+  unfolding callRows slotRows
+  found-0 z =
+      let f = from-slot 0 refl z in
+      let j = slot-judged before place deleted inserted 0 refl (f .number) .answer in
+      judged-0 m x _ (same-number (sym j) ∙ f .number) .0
+
+  pub found-10 : out .0 .number ≡ 10 → noBreaking m x us ≡ some (out .0 .place)
+  unfolding callRows slotRows
+  found-10 z =
+      let f = from-slot 10 refl z in
+      let j = slot-judged before place deleted inserted 10 refl (f .number) .answer in
+      judged-10 m x _ (same-number (sym j) ∙ f .number) ∙ ap (λ (a : Answer). some (a .place)) (sym (f .answer ∙ j))
+
+  -- where no earlier answer is given, 10 is given exactly where no choice of permitted breaks fits the measure
+  abbrev pub Breakable : Type 0
+  Breakable = (ls : List (Run TextUnit)) × Choice us ls × Fits m x ls
+
+  pub exactly-10 : (out .0 .number ≡ 0) ⊎ (out .0 .number ≡ 10) → (out .0 .number ≡ 10) ↔ (Breakable → ⊥)
+  exactly-10 (inl z) = (
+    λ e. absurd (omega (arith, e, z)),
+    λ h. absurd (h (no-10-exactly m x us .0 (found-0 z))),
+  )
+  exactly-10 (inr z) = (λ e. answer-10 m x us _ (found-10 z) .0, λ h. z)
+
+  -- and its place is the first record of the first run that is too wide
+  pub place-10 : out .0 .number ≡ 10 → FirstWide m x (runs us) (out .0 .place)
+  place-10 z = answer-10 m x us _ (found-10 z) .1

@@ -1,0 +1,146 @@
+-- Laws of a book's words: where a slot's words stand, and what stands there after one slot is changed. Assumes nothing.
+use mathlib.Core.Path.{_≡_, refl, sym, ap, _∙_}
+use Prim.Native.Nat.{ℕ, zero, suc, _+_, _-_, _*_, _≤_, _<_}
+use native.Mathlib.Omega.{arith}
+use mathlib.Core.Bool.{true}
+use mathlib.Core.List.{List, [], _∷_, _++_, append-assoc}
+use mathlib.Core.Logic.{inl, inr}
+use mathlib.Core.Option.{none, some}
+use lib.ListN.{length, getD, take, drop, set, length-append, List·getD-eq-default}
+use lib.Seq.{take-at, drop-at, split-at, set-split, length-take-le}
+use Rattle.rules.specs.Records.{badRecord}
+use Rattle.rules.specs.Basics.{cut}
+use Rattle.rules.specs.Groups.{groupFault, units}
+use Rattle.rules.specs.Breaks.{runs, wideRun, noBreaking}
+use Rattle.rules.specs.Sheet.{clinicOf, slotLimitsOk, slotAt, withSlot}
+use Rattle.rules.specs.Refusals.{judged, badSlot, freshSlots}
+use Rattle.rules.specs.Meanings.{All, all-none, all-more}
+use Rattle.rules.proofs.Facts.{tested, ordered, some-none}
+use Rattle.sheet.specs.Book.{BookSlot, bookAt, emptySlots, encodeSlot, encode}
+use Rattle.sheet.proofs.Entry.{clinic-at}
+use Rattle.sheet.proofs.Words.{length-slot, slot-clinic, slot-fresh}
+
+-- Well-formed books -------------------------------------------------------------------------------------------------
+
+-- a slot within its limits, whose records are at most 256 and fall under none of 8, 9 and 10
+pub record Sound (s : BookSlot) : Type 0 where
+  pub limits : slotLimitsOk (s .clinic) (s .measure) (s .indent) ≡ true
+  pub few : length (s .records) ≤ 256
+  pub right : judged (s .measure) (s .indent) (s .records) .number ≡ 0
+
+-- a book of a sheet of n words
+pub record WellFormed (n : ℕ) (b : List BookSlot) : Type 0 where
+  pub sound : All Sound b
+  pub exact : n ≡ 2824 * length b
+  pub some : 1 ≤ length b
+  pub few : length b ≤ 64
+
+module _ {A : Type 0} {P : A → Type 0} where
+  pub all-at : {bs : List A} → All P bs → (k : ℕ) (d : A) → k < length bs → P (getD bs k d)
+  all-at all-none k d h = absurd (omega arith)
+  all-at (all-more p ps) zero d h = p
+  all-at (all-more p ps) (suc k) d h = all-at ps k d (omega arith)
+
+  pub all-set : {bs : List A} → All P bs → (k : ℕ) (a : A) → P a → All P (set bs k a)
+  all-set all-none k a h = all-none
+  all-set (all-more p ps) zero a h = all-more h ps
+  all-set (all-more p ps) (suc k) a h = all-more p (all-set ps k a h)
+
+  all-take : {bs : List A} → All P bs → (k : ℕ) → All P (take k bs)
+  all-take ps zero = all-none
+  all-take all-none (suc k) = all-none
+  all-take (all-more p ps) (suc k) = all-more p (all-take ps k)
+
+-- Where the words stand ---------------------------------------------------------------------------------------------
+
+pub length-encode-slot : {s : BookSlot} → Sound s → length (encodeSlot s) ≡ 2824
+length-encode-slot {s} h = length-slot (s .clinic) (s .measure) (s .indent) (s .records) (h .few)
+
+pub length-encode : {b : List BookSlot} → All Sound b → length (encode b) ≡ 2824 * length b
+length-encode all-none = omega arith
+length-encode (all-more {a = s} {bs = b} h hs) =
+    length-append (encodeSlot s) (encode b) ∙ omega (arith, length-encode-slot h, length-encode hs)
+
+encode-append : (b d : List BookSlot) → encode (b ++ d) ≡ encode b ++ encode d
+encode-append [] d = refl
+encode-append (s ∷ b) d =
+    ap (λ l. encodeSlot s ++ l) (encode-append b d) ∙ sym (append-assoc (encodeSlot s) (encode b) (encode d))
+
+module _ (b : List BookSlot) (h : All Sound b) (k : ℕ) (within : k < length b) where
+  abbrev before : List ℕ
+  before = encode (take k b)
+
+  abbrev here : List ℕ
+  here = encodeSlot (bookAt b k)
+
+  abbrev after : List ℕ
+  after = encode (drop (suc k) b)
+
+  length-before : length before ≡ 2824 * k
+  length-before = length-encode (all-take h k) ∙ ap (λ n. 2824 * n) (length-take-le k b (omega arith))
+
+  length-here : length here ≡ 2824
+  length-here = length-encode-slot (all-at h k _ within)
+
+  parts : encode b ≡ before ++ (here ++ after)
+  parts = ap encode (split-at b k _ within) ∙ encode-append (take k b) (bookAt b k ∷ drop (suc k) b)
+
+  -- slot k of the words is slot k of the book
+  pub slot-of : slotAt (encode b) k ≡ here
+  slot-of =
+      ap (λ l. slotAt l k) parts
+      ∙ ap (take 2824) (drop-at before (here ++ after) (2824 * k) length-before)
+      ∙ take-at here after 2824 length-here
+
+  -- and to write other words there is to change the slot in the book
+  pub with-slot : (t : BookSlot) → withSlot (encode b) k (encodeSlot t) ≡ encode (set b k t)
+  with-slot t =
+      let rest : drop 2824 (drop (2824 * k) (before ++ (here ++ after))) ≡ after
+      = ap (drop 2824) (drop-at before (here ++ after) (2824 * k) length-before)
+      ∙ drop-at here after 2824 length-here in
+      ap (λ l. withSlot l k (encodeSlot t)) parts
+      ∙ rw (take-at before (here ++ after) (2824 * k) length-before, rest)
+      (sym (ap encode (set-split b k t within) ∙ encode-append (take k b) (t ∷ drop (suc k) b)))
+
+-- the clinic of any slot, also past the end
+pub clinic-of : (b : List BookSlot) → All Sound b → (k : ℕ) → clinicOf (slotAt (encode b) k) ≡ bookAt b k .clinic
+clinic-of b h k =
+    elim (ordered k (length b)) [
+      | inl w ↦ ap clinicOf (slot-of b h k w) ∙ slot-clinic _ _ _ (bookAt b k .records)
+      | inr w ↦
+          clinic-at (encode b) k
+          ∙ List·getD-eq-default (encode b) 0 {n = 2824 * k} (omega (arith, length-encode h))
+          ∙ sym (ap (λ s. s .clinic) (List·getD-eq-default b _ {n = k} w))
+    ]
+
+-- What set-up leaves ------------------------------------------------------------------------------------------------
+
+pub none-right : (m x : ℕ) → judged m x [] .number ≡ 0
+unfolding judged badRecord groupFault noBreaking wideRun runs units cut
+none-right m x = refl
+
+sound-none : (c m x : ℕ) → slotLimitsOk c m x ≡ true →
+    Sound (record { clinic = c; measure = m; indent = x; records = [] })
+sound-none c m x t = record { limits = t; few = omega arith; right = none-right m x }
+
+module _ (cs ms xs : List ℕ) where
+  pub encode-empty : (k n : ℕ) → freshSlots k cs ms xs n ≡ encode (emptySlots k cs ms xs n)
+  unfolding freshSlots emptySlots
+  encode-empty k zero = refl
+  encode-empty k (suc n) = rw (slot-fresh, encode-empty (suc k) n)
+
+  pub length-empty : (k n : ℕ) → length (emptySlots k cs ms xs n) ≡ n
+  unfolding emptySlots
+  length-empty k zero = refl
+  length-empty k (suc n) = ap suc (length-empty (suc k) n)
+
+  pub sound-empty : (k n : ℕ) → badSlot k cs ms xs n ≡ none → All Sound (emptySlots k cs ms xs n)
+  unfolding badSlot emptySlots
+  sound-empty k zero e = all-none
+  sound-empty k (suc n) e =
+      elim (tested (slotLimitsOk (getD cs k 0) (getD ms k 0) (getD xs k 0))) [
+        | inl t ↦
+            all-more (sound-none _ _ _ t)
+            (sound-empty (suc k) n (rw (t, badSlot) at e))
+        | inr t ↦ let f : some k ≡ none = rw (t, badSlot) at e in absurd (some-none f)
+      ]

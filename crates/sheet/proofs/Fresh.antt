@@ -1,0 +1,110 @@
+-- Laws of zeros, and of the fresh slots that set-up writes. Assumes nothing.
+use mathlib.Core.Path.{_≡_, refl, _∙_}
+use Prim.Native.Nat.{ℕ, zero, suc, _+_, _-_, _*_, _≤_, _<_}
+use native.Mathlib.Nat.{add-zero, zero-add, add-suc, suc-add}
+use native.Mathlib.Numerals.{add-one}
+use native.Mathlib.Omega.{arith}
+use mathlib.Core.List.{List, [], _++_, append-assoc, append-nil}
+use lib.ListN.{length, getD, take, drop, set, length-append, length-replicate, length-set}
+use lib.ListN.{drop-of-length-le, replicate-append-replicate}
+use lib.Seq.{take-at, drop-at, drop-drop}
+use borrow.Author.Fill.{fill-none, fill-more}
+use borrow.Rule.Slice.PartMut.{putMid, same-len-mid}
+use Rattle.rules.specs.Basics.{zeros}
+use Rattle.rules.specs.Sheet.{fresh}
+use Rattle.rules.specs.Refusals.{freshSlots}
+
+-- Zeros -------------------------------------------------------------------------------------------------------------
+
+pub length-zeros : (n : ℕ) → length (zeros n) ≡ n
+unfolding zeros
+length-zeros n = length-replicate n 0
+
+pub zeros-append : (m n : ℕ) → zeros m ++ zeros n ≡ zeros (m + n)
+unfolding zeros
+zeros-append m n = replicate-append-replicate m n 0
+
+-- a loop that clears words: the first i of them are 0
+pub record Cleared (old words : List ℕ) (i : ℕ) : Type 0 where
+  pub within : i ≤ length old
+  pub same : length words ≡ length old
+  pub now : words ≡ zeros i ++ drop i old
+
+pub clear-none : (old : List ℕ) → Cleared old old 0
+unfolding zeros
+clear-none old = record { within = omega arith; same = refl; now = fill-none old 0 }
+
+pub clear-more : {old words : List ℕ} {i : ℕ} → Cleared old words i → i < length old →
+    Cleared old (set words i 0) (i + 1)
+unfolding zeros
+clear-more {old} {words} {i} c h =
+    record {
+      within = omega arith;
+      same = length-set words i 0 ∙ c .same;
+      now = rw (c .now) (fill-more i 0 old h);
+    }
+
+pub clear-all : {old words : List ℕ} {i : ℕ} → Cleared old words i → length words ≤ i → words ≡ zeros (length old)
+clear-all {old} {words} {i} c h =
+    let e : i ≡ length old = omega (arith, c .within, c .same) in
+    let nil : drop i old ≡ [] = drop-of-length-le old {i = i} (omega arith) in
+    c .now ∙ rw (nil, append-nil, e)
+
+-- the stores of a fresh slot
+pub stores : (words : List ℕ) (clinic m x : ℕ) → words ≡ zeros 2824 →
+    set (set (set words 0 clinic) 1 m) 2 x ≡ fresh clinic m x
+unfolding zeros
+stores words clinic m x e = rw e
+
+-- Fresh slots -------------------------------------------------------------------------------------------------------
+
+module _ (cs ms xs : List ℕ) where
+  pub length-fresh-slots : (k n : ℕ) → length (freshSlots k cs ms xs n) ≡ 2824 * n
+  unfolding freshSlots
+  length-fresh-slots k zero = omega arith
+  length-fresh-slots k (suc n) =
+      simp (length-append, length-zeros) (omega (arith, length-fresh-slots (suc k) n))
+
+  freshAt : ℕ → List ℕ
+  freshAt k = fresh (getD cs k 0) (getD ms k 0) (getD xs k 0)
+
+  fresh-slots-last : (k n : ℕ) → freshSlots k cs ms xs (suc n) ≡ freshSlots k cs ms xs n ++ freshAt (k + n)
+  unfolding freshSlots freshAt
+  fresh-slots-last k zero = rw (append-nil, add-zero)
+  fresh-slots-last k (suc n) = rw (fresh-slots-last (suc k) n, append-assoc, add-suc, suc-add)
+
+  -- a loop that writes the slots: those before slot k are fresh
+  pub record Written (old sheet : List ℕ) (k : ℕ) : Type 0 where
+    pub within : k ≤ length cs
+    pub same : length sheet ≡ length old
+    pub now : sheet ≡ freshSlots 0 cs ms xs k ++ drop (2824 * k) old
+
+  pub write-none : (old : List ℕ) → Written old old 0
+  unfolding freshSlots
+  write-none old = record { within = omega arith; same = refl; now = refl }
+
+  pub write-more : {old sheet last : List ℕ} {k : ℕ} → Written old sheet k → k < length cs →
+      length last ≡ length (take (2824 * k + 2824 - 2824 * k) (drop (2824 * k) sheet)) →
+      last ≡ fresh (getD cs k 0) (getD ms k 0) (getD xs k 0) →
+      Written old (putMid (2824 * k) (2824 * k + 2824 - 2824 * k) sheet last) (k + 1)
+  unfolding freshAt
+  write-more {old} {sheet} {last} {k} w h f e =
+      let n : 2824 * k + 2824 - 2824 * k ≡ 2824 = omega arith in
+      let m : 2824 * (k + 1) ≡ 2824 * k + 2824 = omega arith in
+      let F : List ℕ = freshSlots 0 cs ms xs k in
+      let D : List ℕ = drop (2824 * k) old in
+      let l : length F ≡ 2824 * k = length-fresh-slots 0 k in
+      record {
+        within = omega arith;
+        same = same-len-mid (2824 * k) (2824 * k + 2824 - 2824 * k) sheet last f ∙ w .same;
+        now =
+            rw (n, m, add-one k, w .now, e, take-at F D (2824 * k) l, drop-at F D (2824 * k) l, drop-drop)
+            (rw (fresh-slots-last 0 k, zero-add, append-assoc));
+      }
+
+  pub write-all : {old sheet : List ℕ} {k : ℕ} → Written old sheet k → length old ≡ 2824 * length cs → length cs ≤ k →
+      sheet ≡ freshSlots 0 cs ms xs (length cs)
+  write-all {old} {sheet} {k} w h g =
+      let e : k ≡ length cs = omega (arith, w .within) in
+      let nil : drop (2824 * k) old ≡ [] = drop-of-length-le old {i = 2824 * k} (omega arith) in
+      w .now ∙ rw (nil, append-nil, e)

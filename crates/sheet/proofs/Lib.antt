@@ -1,0 +1,15 @@
+pub mod Tables
+pub mod Entry
+pub mod Lists
+pub mod Fresh
+pub mod Words
+pub mod Encode
+pub mod Slots
+pub mod Steps
+pub mod Sequences
+pub mod Frame
+pub mod Changes
+pub mod Alike
+pub mod Runs
+pub mod Histories
+pub mod Claims

@@ -1,0 +1,148 @@
+-- One slot: an edit of a sound slot's words does what the book does with its records, and an accepted edit of any words
+-- leaves a whole slot. Assumes nothing.
+use mathlib.Core.Path.{_≡_, refl, sym, ap, _∙_}
+use Prim.Native.Nat.{ℕ, zero, suc, _+_, _-_, _/_, _%_, _≤_}
+use native.Mathlib.Omega.{arith}
+use mathlib.Core.Bool.{true, false, cond, _||_}
+use mathlib.Core.List.{List, [], _∷_, append-nil}
+use mathlib.Core.Logic.{inl, inr}
+use lib.Dec.{leb, ltb, eqb}
+use lib.ListN.{length, length-append, length-drop}
+use lib.Seq.{length-take-le}
+use borrow.Author.Tests.{ltb-false, le-leb, le-ltb, eq-eqb}
+use Rattle.rules.specs.Basics.{firstOf}
+use Rattle.rules.specs.Records.{Rec, records, recordWords}
+use Rattle.rules.specs.Sheet.{slotWords, clinicOf, measureOf, indentOf, limitsOk}
+use Rattle.rules.specs.Refusals.{Answer, Outcome, judged, sound, splice, edited, slotRows, editSlot}
+use Rattle.rules.proofs.Facts.{tested}
+use Rattle.rules.proofs.Limits.{and-right}
+use Rattle.sheet.specs.Book.{BookSlot, withRecords, bookEditRows, bookEdited}
+use Rattle.sheet.specs.Book.{encodeSlot, freshSlot, singleOf, single}
+use Rattle.sheet.proofs.Tables.{passed}
+use Rattle.sheet.proofs.Entry.{or-right}
+use Rattle.sheet.proofs.Words.{length-record-words, records-again}
+use Rattle.sheet.proofs.Words.{slot-clinic, slot-measure, slot-indent, slot-count, slot-records, slot-fresh}
+use Rattle.sheet.proofs.Encode.{Sound, none-right}
+
+-- The splice --------------------------------------------------------------------------------------------------------
+
+pub length-records : (ws : List ℕ) (i n : ℕ) → length (records ws i n) ≡ n
+unfolding records
+length-records ws i zero = refl
+length-records ws i (suc n) = ap suc (length-records ws (suc i) n)
+
+length-splice : (rs : List Rec) (place deleted : ℕ) (new : List Rec) → place + deleted ≤ length rs →
+    length (splice rs place deleted new) ≡ length rs - deleted + length new
+unfolding splice
+length-splice rs place deleted new h =
+    simp (length-append, length-drop, length-take-le place rs (omega arith)) (omega arith)
+
+-- where the rows 5 and 7 do not apply, at most 256 records result
+pub splice-few : (rs : List Rec) (place deleted : ℕ) (ws : List ℕ) →
+    ltb (length rs) place || ltb (length rs) (place + deleted) ≡ false →
+    ltb 256 (length rs - deleted + length ws / 6) ≡ false →
+    length (splice rs place deleted (records ws 0 (length ws / 6))) ≤ 256
+splice-few rs place deleted ws p q =
+    let new = records ws 0 (length ws / 6) in
+    let h : place + deleted ≤ length rs = ltb-false _ _ (or-right (ltb (length rs) place) _ p) in
+    let few : length rs - deleted + length ws / 6 ≤ 256 = ltb-false _ _ q in
+    omega (arith, length-splice rs place deleted new h, length-records ws 0 (length ws / 6))
+
+-- The book's edit of one slot ---------------------------------------------------------------------------------------
+
+-- its answer by the rows 5 to 10
+abbrev pub slotAnswer : ℕ → ℕ → List ℕ → BookSlot → Answer
+slotAnswer place deleted inserted s =
+    let t = bookEdited place deleted inserted s in
+    firstOf (bookEditRows place deleted inserted s) (judged (t .measure) (t .indent) (t .records))
+
+-- the slot afterwards
+abbrev pub slotAfter : ℕ → ℕ → List ℕ → BookSlot → BookSlot
+slotAfter place deleted inserted s =
+    cond (eqb (slotAnswer place deleted inserted s .number) 0) (bookEdited place deleted inserted s) s
+
+-- an accepted edit leaves a sound slot
+pub edited-sound : (place deleted : ℕ) (inserted : List ℕ) (s : BookSlot) → Sound s →
+    slotAnswer place deleted inserted s .number ≡ 0 → Sound (bookEdited place deleted inserted s)
+unfolding bookEdited bookEditRows
+edited-sound place deleted inserted s h e =
+    let p = passed 0 (bookEditRows place deleted inserted s) _ refl e in
+    record {
+      limits = h .limits;
+      few = splice-few (s .records) place deleted inserted (p .0 .0) (p .0 .1 .1 .0);
+      right = p .1;
+    }
+
+-- On the slot's words -----------------------------------------------------------------------------------------------
+
+module _ (s : BookSlot) (h : Sound s) where
+  abbrev words : List ℕ
+  words = encodeSlot s
+
+  -- answer 4 does not apply
+  sound-words : sound words ≡ true
+  unfolding sound
+  sound-words =
+      let l = and-right (leb (s .clinic) 65535) (limitsOk (s .measure) (s .indent)) (h .limits) in
+      rw (slot-records, slot-measure, slot-indent, slot-count, l, le-leb _ _ (h .few), eq-eqb _ _ (h .right))
+
+  module _ (place deleted : ℕ) (inserted : List ℕ) where
+    same-answer : firstOf (slotRows words place deleted inserted)
+        (judged (measureOf words) (indentOf words) (edited words place deleted inserted))
+        ≡ slotAnswer place deleted inserted s
+    unfolding slotRows bookEditRows bookEdited
+    same-answer = rw (sound-words, slot-records, slot-measure, slot-indent, slot-count)
+
+    same-words : slotWords (clinicOf words) (measureOf words) (indentOf words) (edited words place deleted inserted)
+        ≡ encodeSlot (bookEdited place deleted inserted s)
+    unfolding bookEdited
+    same-words = rw (slot-records, slot-clinic, slot-measure, slot-indent)
+
+    pub slot-edits : editSlot words place deleted inserted
+        ≡ (slotAnswer place deleted inserted s, encodeSlot (slotAfter place deleted inserted s))
+    unfolding editSlot
+    slot-edits =
+        let a = slotAnswer place deleted inserted s in
+        rw (same-answer, same-words)
+        (ap (λ w. (a, w)) (elim (tested (eqb (a .number) 0)) [ inl e ↦ rw e | inr e ↦ rw e ]))
+
+-- The single edit ---------------------------------------------------------------------------------------------------
+
+module _ (s : BookSlot) (h : Sound s) where
+  abbrev empty : BookSlot
+  empty = withRecords s []
+
+  abbrev all : List ℕ
+  all = recordWords (s .records)
+
+  edited-all : bookEdited 0 0 all empty ≡ s
+  unfolding bookEdited splice
+  edited-all = rw (records-again, append-nil)
+
+  answer-all : slotAnswer 0 0 all empty ≡ judged (s .measure) (s .indent) (s .records)
+  unfolding bookEditRows
+  answer-all =
+      let n = length-record-words (s .records) in
+      let six : length all % 6 ≡ 0 = omega (arith, n) in
+      let few : 0 - 0 + length all / 6 ≤ 256 = omega (arith, n, h .few) in
+      rw (edited-all, eq-eqb _ _ six, le-ltb _ _ few)
+
+  -- of a fresh slot, with all the records of a sound one
+  pub single-edit : editSlot (freshSlot s) 0 0 all ≡ (judged (s .measure) (s .indent) (s .records), encodeSlot s)
+  single-edit =
+      let g : Sound empty
+      = record { limits = h .limits; few = omega arith; right = none-right (s .measure) (s .indent) } in
+      ap (λ w. editSlot w 0 0 all) (sym (slot-fresh (s .clinic) (s .measure) (s .indent)))
+      ∙ slot-edits empty g 0 0 all
+      ∙ rw (answer-all, eq-eqb _ _ (h .right), edited-all)
+
+-- so a slot's words do not show its history
+pub single-is : (s : BookSlot) → Sound s → encodeSlot s ≡ single s
+single-is s h = from (s .records) refl
+  where
+    from : (rs : List Rec) → s .records ≡ rs → encodeSlot s ≡ singleOf s rs
+    from [] e =
+        ap (slotWords (s .clinic) (s .measure) (s .indent)) e ∙ slot-fresh (s .clinic) (s .measure) (s .indent)
+    from (r ∷ rs) e =
+        sym (ap (λ (o : Outcome). o .1) (single-edit s h))
+        ∙ ap (λ qs. editSlot (freshSlot s) 0 0 (recordWords qs) .1) e

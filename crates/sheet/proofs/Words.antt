@@ -1,0 +1,142 @@
+-- A slot's words: how many there are, and what is read back from them. Laws of crate `rules` alone. Assumes nothing.
+use mathlib.Core.Path.{_≡_, refl, sym, ap, _∙_}
+use Prim.Native.Nat.{ℕ, suc, _+_, _-_, _*_, _/_, _≤_}
+use native.Mathlib.Nat.{add-zero}
+use native.Mathlib.Omega.{arith}
+use mathlib.Core.List.{List, [], _∷_, _++_, append-assoc, append-nil}
+use lib.ListN.{length, getD, take, drop, length-append}
+use lib.Seq.{getD-append-add, take-at, drop-at}
+use Rattle.rules.specs.Basics.{cut, zeros, padded}
+use Rattle.rules.specs.Records.{Rec, recAt, records, recordWords}
+use Rattle.rules.specs.Groups.{units}
+use Rattle.rules.specs.Breaks.{runs, breaking}
+use Rattle.rules.specs.Adjustment.{Line, linesOf, compose}
+use Rattle.rules.specs.Sheet.{placeWords, lineWords, head, slotWords, fresh}
+use Rattle.rules.specs.Sheet.{clinicOf, measureOf, indentOf, countOf, lineCountOf, recordsOf}
+use Rattle.rules.proofs.Facts.{cons-path}
+use Rattle.sheet.proofs.Fresh.{length-zeros, zeros-append}
+use Rattle.rules.proofs.Lengths.{length-lineWords, composed-places, composed-few}
+
+-- Records as words --------------------------------------------------------------------------------------------------
+
+pub length-record-words : (rs : List Rec) → length (recordWords rs) ≡ 6 * length rs
+unfolding recordWords
+length-record-words [] = omega arith
+length-record-words (r ∷ rs) = omega (arith, length-record-words rs)
+
+-- the records that follow words p, six to a record
+records-after : (p : List ℕ) (i : ℕ) (rs : List Rec) (ws : List ℕ) → length p ≡ 6 * i →
+    records (p ++ (recordWords rs ++ ws)) i (length rs) ≡ rs
+unfolding records recordWords
+records-after p i [] ws e = refl
+records-after p i (r ∷ rs) ws e =
+    let w : List ℕ = r .code ∷ r .class ∷ r .size ∷ r .advance ∷ r .group ∷ r .ruby ∷ [] in
+    let l : List ℕ = w ++ (recordWords rs ++ ws) in
+    let at : (j : ℕ) → getD (p ++ l) (6 * i + j) 0 ≡ getD l j 0 = λ j. rw (← e) (getD-append-add p l j 0) in
+    let at₀ : getD (p ++ l) (6 * i) 0 ≡ r .code = rw add-zero at (at 0) in
+    let one : recAt (p ++ l) i ≡ r = rw (at₀, at 1, at 2, at 3, at 4, at 5) in
+    let longer : length (p ++ w) ≡ 6 * suc i = omega (arith, length-append p w) in
+    cons-path one (rw (← append-assoc p w (recordWords rs ++ ws)) (records-after (p ++ w) (suc i) rs ws longer))
+
+-- the records of a slot's record words, whatever follows them
+pub records-of-words : (rs : List Rec) (ws : List ℕ) → records (recordWords rs ++ ws) 0 (length rs) ≡ rs
+records-of-words rs ws = records-after [] 0 rs ws refl
+
+pub records-again : (rs : List Rec) → records (recordWords rs) 0 (length (recordWords rs) / 6) ≡ rs
+records-again rs =
+    let n : length (recordWords rs) / 6 ≡ length rs = omega (arith, length-record-words rs) in
+    rw n (ap (λ ws. records ws 0 (length rs)) (sym (append-nil (recordWords rs))) ∙ records-of-words rs [])
+
+-- A slot ------------------------------------------------------------------------------------------------------------
+
+length-padded : (n : ℕ) (ws : List ℕ) → length ws ≤ n → length (padded n ws) ≡ n
+length-padded n ws h = length-append ws _ ∙ omega (arith, length-zeros (n - length ws))
+
+module _ (clinic m x : ℕ) (rs : List Rec) where
+  abbrev lines : List Line
+  lines = compose m x (units rs)
+
+  abbrev first : List ℕ
+  first = head clinic m x (length rs) (length lines)
+
+  abbrev second : List ℕ
+  second = padded 1536 (recordWords rs)
+
+  abbrev third : List ℕ
+  third = padded 512 (placeWords 0 lines)
+
+  abbrev fourth : List ℕ
+  fourth = padded 768 (lineWords 0 lines)
+
+  -- the head and the records are read back
+  pub slot-clinic : clinicOf (slotWords clinic m x rs) ≡ clinic
+  unfolding slotWords
+  slot-clinic = refl
+
+  pub slot-measure : measureOf (slotWords clinic m x rs) ≡ m
+  unfolding slotWords
+  slot-measure = refl
+
+  pub slot-indent : indentOf (slotWords clinic m x rs) ≡ x
+  unfolding slotWords
+  slot-indent = refl
+
+  pub slot-count : countOf (slotWords clinic m x rs) ≡ length rs
+  unfolding slotWords
+  slot-count = refl
+
+  pub slot-line-count : lineCountOf (slotWords clinic m x rs) ≡ length lines
+  unfolding slotWords
+  slot-line-count = refl
+
+  pub slot-records : recordsOf (slotWords clinic m x rs) ≡ rs
+  unfolding slotWords
+  slot-records =
+      let rest : List ℕ = zeros (1536 - length (recordWords rs)) in
+      let parts : slotWords clinic m x rs ≡ first ++ (recordWords rs ++ (rest ++ (third ++ fourth)))
+      = append-assoc (first ++ second) third fourth
+      ∙ append-assoc first second (third ++ fourth)
+      ∙ ap (λ l. first ++ l) (append-assoc (recordWords rs) rest (third ++ fourth)) in
+      ap (λ w. records (drop 8 w) 0 (length rs)) parts ∙ records-of-words rs (rest ++ (third ++ fourth))
+
+  module _ (few : length rs ≤ 256) where
+    length-second : length second ≡ 1536
+    length-second = length-padded 1536 (recordWords rs) (omega (arith, length-record-words rs))
+
+    length-third : length third ≡ 512
+    length-third = length-padded 512 (placeWords 0 lines) (omega (arith, composed-places m x rs))
+
+    length-fourth : length fourth ≡ 768
+    length-fourth =
+        length-padded 768 (lineWords 0 lines) (omega (arith, length-lineWords 0 lines, composed-few m x rs))
+
+    length-three : length (first ++ second ++ third) ≡ 2056
+    length-three =
+        length-append (first ++ second) third
+        ∙ omega (arith, length-append first second, length-second, length-third)
+
+    -- a slot has 2,824 words
+    pub length-slot : length (slotWords clinic m x rs) ≡ 2824
+    unfolding slotWords
+    length-slot = length-append (first ++ second ++ third) fourth ∙ omega (arith, length-three, length-fourth)
+
+    -- and the used ones of its lines stand from word 2056 on
+    pub slot-lines : take (3 * length lines) (drop 2056 (slotWords clinic m x rs)) ≡ lineWords 0 lines
+    unfolding slotWords
+    slot-lines =
+        ap (take (3 * length lines)) (drop-at (first ++ second ++ third) fourth 2056 length-three)
+        ∙ take-at (lineWords 0 lines) _ (3 * length lines) (length-lineWords 0 lines)
+
+five : zeros 5 ≡ 0 ∷ 0 ∷ 0 ∷ 0 ∷ 0 ∷ []
+unfolding zeros
+five = refl
+
+-- a slot without records is fresh
+pub slot-fresh : (clinic m x : ℕ) → slotWords clinic m x [] ≡ fresh clinic m x
+unfolding slotWords compose units cut runs breaking linesOf recordWords placeWords lineWords
+slot-fresh clinic m x =
+    let z : zeros 1536 ++ zeros 512 ++ zeros 768 ≡ zeros 2816
+    = ap (λ l. l ++ zeros 768) (zeros-append 1536 512) ∙ zeros-append 2048 768 in
+    ap (λ l. clinic ∷ m ∷ x ∷ 0 ∷ 0 ∷ 0 ∷ 0 ∷ 0 ∷ l) z
+    ∙ ap (λ l. clinic ∷ m ∷ x ∷ (l ++ zeros 2816)) (sym five)
+    ∙ ap (λ l. clinic ∷ m ∷ x ∷ l) (zeros-append 5 2816)

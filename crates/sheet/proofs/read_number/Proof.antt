@@ -1,0 +1,58 @@
+-- `sheet::read_number` meets its contract. Assumes nothing.
+use mathlib.Core.Path.{_≡_, sym, _∙_}
+use native.Mathlib.Omega.{arith}
+use borrow.Author.Needs.{needs}
+use borrow.Author.Tests.{lt-ltb, le-ltb}
+use denote.Ref.{now}
+use Rattle.rules.specs.Refusals.{called}
+use Rattle.sheet.proofs.Tables.{same-number}
+use Rattle.sheet.proofs.Entry.{entered, number-refused, number-entered}
+use Rattle.sheet.proofs.read_number.Statement.{statement}
+use Rattle.sheet.proofs.read_number.Tie as tie
+
+-- where the rows 1 to 3 do not apply
+zero : (c : tie.Else1) →
+    let a = c .before .before .before .before .args in
+    called (now (a .sheet)) (a .caller .0) (a .slot .0) .number ≡ 0
+zero c = same-number (sym (c .before .before .called .ensures)) ∙ c .if1 .left
+
+called-requires : tie.Need-called-requires
+called-requires c κs = search needs
+
+returns : tie.Need-returns
+returns c = number-refused _ _ _ _ (same-number (c .before .before .called .ensures)) (c .if1 .taken)
+
+cast-head : tie.Need-cast-head
+cast-head c = search needs
+
+mul-head : tie.Need-mul-head
+mul-head c = search needs
+
+add-if2 : tie.Need-add-if2
+add-if2 c = search needs
+
+mul-if2 : tie.Need-mul-if2
+mul-if2 c = search needs
+
+shared-slice-read-if2 : tie.Need-shared-slice-read-if2
+shared-slice-read-if2 c = let e = entered _ _ _ (zero (c .before .before)) in omega arith
+
+returns-2 : tie.Need-returns-2
+returns-2 c = sym (number-entered _ _ _ (zero (c .before .before .before)) ∙ rw (lt-ltb _ _ (c .if2 .taken)))
+
+returns-3 : tie.Need-returns-3
+returns-3 c = sym (number-entered _ _ _ (zero (c .before .before .before)) ∙ rw (le-ltb _ _ (c .if2 .left)))
+
+pub read-number-spec : {M : Type 1} → statement M
+read-number-spec =
+    tie.close
+    (tie.spec
+    called-requires
+    returns
+    cast-head
+    mul-head
+    add-if2
+    mul-if2
+    shared-slice-read-if2
+    returns-2
+    returns-3)

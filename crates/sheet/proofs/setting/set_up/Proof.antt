@@ -1,0 +1,32 @@
+-- `sheet::setting::set_up` meets its contract. Assumes nothing.
+use mathlib.Core.Path.{sym, _∙_}
+use Rattle.sheet.proofs.Tables.{same-number}
+use Rattle.sheet.proofs.Lists.{accepted, set-up-refused, set-up-accepted}
+use borrow.Author.Needs.{needs}
+use Rattle.sheet.proofs.setting.set_up.Statement.{statement}
+use Rattle.sheet.proofs.setting.set_up.Tie as tie
+
+set-up-answer-requires : tie.Need-set-up-answer-requires
+set-up-answer-requires c κs = search needs
+
+write-slots-requires : tie.Need-write-slots-requires
+write-slots-requires c κs =
+    let d = c .before in
+    let f = accepted _ _ _ _ (same-number (sym (d .before .before .set-up-answer .ensures)) ∙ d .if1 .taken) in
+    (f .matched, f .exact)
+
+same-length : tie.Need-same-length
+same-length c = search needs
+
+returns : tie.Need-returns
+returns c =
+    let d = c .before .before .before .before in
+    let w = c .before .before .write-slots .ensures in
+    set-up-accepted _ _ _ _ _ _ (d .before .before .set-up-answer .ensures) (d .if1 .taken) w
+
+returns-2 : tie.Need-returns-2
+returns-2 c = set-up-refused _ _ _ _ _ (c .before .before .set-up-answer .ensures) (c .if1 .left)
+
+pub set-up-spec : {M : Type 1} → statement M
+set-up-spec =
+    tie.close (tie.spec set-up-answer-requires write-slots-requires same-length returns returns-2)

@@ -1,0 +1,50 @@
+-- What the claims say of sheets. proofs/Claims.antt proves each of these.
+--
+--   outside      a word that is not of the named slot
+--   beyond       answer 1 or 2 is due: the sheet's length tells
+--   alike        two sheets that a caller of a slot cannot tell apart
+--   spliced      a slot after an accepted edit
+--
+-- Assumes nothing.
+use mathlib.Core.Path.{_≡_}
+use Prim.Native.Nat.{ℕ, _+_, _*_, _/_, _≤_, _<_}
+use mathlib.Core.Bool.{Bool, false, not, _||_}
+use mathlib.Core.List.{List}
+use mathlib.Core.Logic.{_⊎_}
+use lib.Dec.{leb}
+use lib.ListN.{length}
+use Rattle.rules.specs.Records.{records}
+use Rattle.rules.specs.Groups.{units}
+use Rattle.rules.specs.Adjustment.{compose}
+use Rattle.rules.specs.Sheet.{slotWords, clinicOf, measureOf, indentOf, recordsOf, lengthOk, slotAt}
+use Rattle.rules.specs.Refusals.{Answer, splice}
+use Rattle.sheet.specs.Book.{Call, call-set-up, call-edit, call-read}
+
+-- word i is not one of slot k's 2,824
+abbrev pub Outside : ℕ → ℕ → Type 0
+Outside k i = (i < 2824 * k) ⊎ (2824 * k + 2824 ≤ i)
+
+-- answer 1 or 2 is due on a sheet of n words
+abbrev pub beyond : ℕ → ℕ → Bool
+beyond n k = not (lengthOk n) || leb (n / 2824) k
+
+-- sheets of one length, alike in slot k's clinic and, where that is the caller, in the slot's words; where answer 1 or
+-- 2 is due, alike in length alone
+pub record Alike (caller k : ℕ) (ws vs : List ℕ) : Type 0 where
+  pub same-length : length ws ≡ length vs
+  pub same-clinic : beyond (length ws) k ≡ false → clinicOf (slotAt ws k) ≡ clinicOf (slotAt vs k)
+  pub same-words : beyond (length ws) k ≡ false → caller ≡ clinicOf (slotAt ws k) → slotAt ws k ≡ slotAt vs k
+
+-- for a call: a set-up looks at the sheet's length alone
+abbrev pub AlikeFor : Call → List ℕ → List ℕ → Type 0
+AlikeFor (call-set-up cs ms xs) ws vs = length ws ≡ length vs
+AlikeFor (call-edit c k place deleted inserted) ws vs = Alike (c .0) (k .0) ws vs
+AlikeFor (call-read c k) ws vs = Alike (c .0) (k .0) ws vs
+
+-- a slot s becomes t by an accepted edit with answer a: its records are the old ones with exactly the named stretch
+-- replaced, and all its words follow from them, clinic, measure and indent as they were
+pub record Spliced (s t : List ℕ) (a : Answer) (place deleted : ℕ) (inserted : List ℕ) : Type 0 where
+  pub fits : place + deleted ≤ length (recordsOf s)
+  pub changed : recordsOf t ≡ splice (recordsOf s) place deleted (records inserted 0 (length inserted / 6))
+  pub composed : t ≡ slotWords (clinicOf s) (measureOf s) (indentOf s) (recordsOf t)
+  pub lines : a .place ≡ length (compose (measureOf s) (indentOf s) (units (recordsOf t)))

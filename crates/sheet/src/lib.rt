@@ -1,0 +1,108 @@
+// The calls on a sheet, and ruby place.
+mod setting;
+
+pub use crate::setting::set_up;
+pub use rules::RubyPlace;
+pub use rules::ruby_place;
+pub use slot::Answer;
+use slot::edit_slot;
+ghost use mathlib.Core.Path.{_≡_};
+ghost use Prim.Native.Nat.{_+_, _*_};
+ghost use lib.ListN.{length};
+ghost use Rattle.rules.specs.Sheet.{lengthOk};
+ghost use Rattle.rules.specs.Refusals.{says, readNumber, readStart, readLength, readWords};
+ghost use Rattle.rules.specs.Refusals.{called as calledOf, edit as editOf};
+
+// Two kinds of number: edit's and read's two cannot be exchanged.
+#[repr(C)]
+pub struct Clinic(pub u32);
+
+#[repr(C)]
+pub struct SlotNumber(pub u32);
+
+// Whether a sheet's length is 2,824 P for a P from 1 to 64.
+fn length_ok(len: usize) -> bool
+    ensures { λ r. ⌜ r ≡ lengthOk len ⌝ }
+{
+    let slots = len / 2824;
+    (len % 2824 == 0) & ((1 <= slots) & (slots <= 64))
+}
+
+// Answers 1, 2 and 3, with which every call on a slot begins, or 0. Of the slot it looks at the clinic alone.
+fn called(sheet: &[u32], caller: Clinic, slot: SlotNumber) -> Answer
+    ensures { λ r. ⌜ says (r .number) (r .place) ≡ calledOf (now (sheet .entry)) (caller .0) (slot .0) ⌝ }
+{
+    let len = sheet.len();
+    if !length_ok(len) {
+        return Answer {
+            number: 1,
+            place: 0,
+        };
+    }
+    let k = slot.0 as usize;
+    if len / 2824 <= k {
+        return Answer {
+            number: 2,
+            place: 0,
+        };
+    }
+    if (caller.0 == 0) | (caller.0 != sheet[2824 * k]) {
+        return Answer {
+            number: 3,
+            place: 0,
+        };
+    }
+    Answer {
+        number: 0,
+        place: 0,
+    }
+}
+
+// Replaces a stretch of a slot's records, and composes the slot anew.
+pub fn edit(
+    sheet: &mut [u32],
+    caller: Clinic,
+    slot: SlotNumber,
+    place: u32,
+    deleted: u32,
+    inserted: &[u32],
+) -> Answer
+    ensures { λ r. ⌜ (says (r .number) (r .place), now (sheet .exit))
+        ≡ editOf (now (sheet .entry)) (caller .0) (slot .0) place deleted (now (inserted .entry)) ⌝ }
+{
+    let refusal = called(sheet, caller, slot);
+    if refusal.number != 0 {
+        return refusal;
+    }
+    let start = 2824 * slot.0 as usize;
+    let end = start + 2824;
+    edit_slot(&mut sheet[start..end], place, deleted, inserted)
+}
+
+// The number of a read: 0, or why it is refused.
+pub fn read_number(sheet: &[u32], caller: Clinic, slot: SlotNumber) -> u32
+    ensures { λ r. ⌜ r ≡ readNumber (now (sheet .entry)) (caller .0) (slot .0) ⌝ }
+{
+    let refusal = called(sheet, caller, slot);
+    if refusal.number != 0 {
+        return refusal.number;
+    }
+    let head = 2824 * slot.0 as usize;
+    if 256 < sheet[head + 4] { 4 } else { 0 }
+}
+
+// A slot's used line words, as the very part of the sheet that they are. Empty where the read is refused.
+pub fn read(sheet: &[u32], caller: Clinic, slot: SlotNumber) -> &[u32]
+    ensures words { λ r. ⌜ now r ≡ readWords (now (sheet .entry)) (caller .0) (slot .0) ⌝ }
+    ensures count { λ r. ⌜ length (now r) ≡ readLength (now (sheet .entry)) (caller .0) (slot .0) ⌝ }
+    ensures place { λ r. ⌜ (r .ptr .0 ≡ sheet .entry .ptr .0)
+        × (r .ptr .1 ≡ sheet .entry .ptr .1 + 4 * readStart (now (sheet .entry)) (caller .0) (slot .0)) ⌝ }
+{
+    if read_number(sheet, caller, slot) != 0 {
+        return &sheet[0..0];
+    }
+    let head = 2824 * slot.0 as usize;
+    let count = 3 * sheet[head + 4] as usize;
+    let first = head + 2056;
+    &sheet[first..first + count]
+}

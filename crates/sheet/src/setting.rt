@@ -1,0 +1,109 @@
+// Set-up: every slot empty, with its clinic, measure and indent.
+use crate::Answer;
+use crate::length_ok;
+ghost use mathlib.Core.Path.{_≡_};
+ghost use Prim.Native.Nat.{_*_, _≤_};
+ghost use lib.ListN.{length};
+ghost use Rattle.rules.specs.Basics.{zeros};
+ghost use Rattle.rules.specs.Sheet.{fresh, slotLimitsOk};
+ghost use Rattle.rules.specs.Refusals.{says, setUpAnswer, setUp};
+ghost use Rattle.sheet.specs.Lists.{Matched, limitsAnswer, allFresh};
+
+// Whether a slot's clinic, measure and indent are within their limits.
+fn limits_ok(clinic: u32, measure: u32, indent: u32) -> bool
+    ensures { λ r. ⌜ r ≡ slotLimitsOk clinic measure indent ⌝ }
+{
+    (clinic <= 65535) & ((8 <= measure) & (measure <= 1000000) & (indent < measure))
+}
+
+// Answer 11 and the first slot out of limits, or 0 and the number of slots.
+fn limits_answer(clinics: &[u32], measures: &[u32], indents: &[u32]) -> Answer
+    requires { ⌜ Matched (now clinics) (now measures) (now indents) ⌝ }
+    requires { ⌜ length (now clinics) ≤ 64 ⌝ }
+    ensures { λ r. ⌜ says (r .number) (r .place)
+        ≡ limitsAnswer (now (clinics .entry)) (now (measures .entry)) (now (indents .entry)) ⌝ }
+{
+    let mut k = 0;
+    while k < clinics.len() {
+        if !limits_ok(clinics[k], measures[k], indents[k]) {
+            return Answer {
+                number: 11,
+                place: k as u32,
+            };
+        }
+        k += 1;
+    }
+    Answer {
+        number: 0,
+        place: k as u32,
+    }
+}
+
+// What a set-up of a sheet of `len` words answers.
+fn set_up_answer(len: usize, clinics: &[u32], measures: &[u32], indents: &[u32]) -> Answer
+    ensures { λ r. ⌜ says (r .number) (r .place)
+        ≡ setUpAnswer len (now (clinics .entry)) (now (measures .entry)) (now (indents .entry)) ⌝ }
+{
+    let p = len / 2824;
+    let misfit = !length_ok(len)
+        | (clinics.len() != p)
+        | (measures.len() != p)
+        | (indents.len() != p);
+    if misfit {
+        return Answer {
+            number: 1,
+            place: 0,
+        };
+    }
+    limits_answer(clinics, measures, indents)
+}
+
+// Writes 0 to every word.
+fn clear(words: &mut [u32])
+    ensures { λ _. ⌜ now (words .exit) ≡ zeros (length (now (words .entry))) ⌝ }
+{
+    let mut i = 0;
+    while i < words.len() {
+        words[i] = 0;
+        i += 1;
+    }
+}
+
+// Writes a fresh slot.
+fn write_fresh(words: &mut [u32], clinic: u32, measure: u32, indent: u32)
+    requires { ⌜ length (now words) ≡ 2824 ⌝ }
+    ensures { λ _. ⌜ now (words .exit) ≡ fresh clinic measure indent ⌝ }
+{
+    clear(words);
+    words[0] = clinic;
+    words[1] = measure;
+    words[2] = indent;
+}
+
+// Writes a fresh slot for each clinic.
+fn write_slots(sheet: &mut [u32], clinics: &[u32], measures: &[u32], indents: &[u32])
+    requires { ⌜ Matched (now clinics) (now measures) (now indents) ⌝ }
+    requires { ⌜ length (now sheet) ≡ 2824 * length (now clinics) ⌝ }
+    ensures { λ _. ⌜ now (sheet .exit)
+        ≡ allFresh (now (clinics .entry)) (now (measures .entry)) (now (indents .entry)) ⌝ }
+{
+    let mut k = 0;
+    while k < clinics.len() {
+        let start = 2824 * k;
+        let end = start + 2824;
+        write_fresh(&mut sheet[start..end], clinics[k], measures[k], indents[k]);
+        k += 1;
+    }
+}
+
+// Empties every slot, and gives each its clinic, measure and indent.
+pub fn set_up(sheet: &mut [u32], clinics: &[u32], measures: &[u32], indents: &[u32]) -> Answer
+    ensures { λ r. ⌜ (says (r .number) (r .place), now (sheet .exit))
+        ≡ setUp (now (sheet .entry)) (now (clinics .entry)) (now (measures .entry)) (now (indents .entry)) ⌝ }
+{
+    let answer = set_up_answer(sheet.len(), clinics, measures, indents);
+    if answer.number == 0 {
+        write_slots(sheet, clinics, measures, indents);
+    }
+    answer
+}
