@@ -61,6 +61,7 @@ fn link(library: &Path) {
     if let Err(error) = std::fs::copy(library, folder.join("libgelumbrio.a")) {
         fail(&format!("{} could not be copied: {error}.", library.display()));
     }
+    println!("cargo:rustc-env=GELUMBRIO_LIBRARY={}", folder.join("libgelumbrio.a").display());
     println!("cargo:rustc-link-search=native={}", folder.display());
     println!("cargo:rustc-link-lib=static=gelumbrio");
 }

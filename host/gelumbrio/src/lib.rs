@@ -59,3 +59,8 @@ pub fn ruby_place(base_advance: u32, ruby_count: u32, size: u32, k: u32) -> Resu
         number => Err(Refusal::Unlisted { number, place: 0 }),
     }
 }
+
+/// The README's Rust snippet, compiled and run as a doc-test.
+#[cfg(doctest)]
+#[doc = include_str!("../../../README.md")]
+pub struct Readme;
