@@ -20,7 +20,8 @@ use Rattle.compose.proofs.Sums.{plus-assoc, nothing-plus, part-of, line
 use Rattle.compose.proofs.Sums.{gap-row, gap-bounds, advance-limit}
 use Rattle.compose.proofs.Floors.{floor-within, no-floors, floors-none, floors-between, between-limit}
 use Rattle.compose.proofs.Pastes.{Pasting, paste-start, paste-length, paste-more}
-use Rattle.compose.proofs.PlaceWords.{length-places, places-append, length-unit}
+use Rattle.rules.proofs.Lengths.{length-placesOf}
+use Rattle.compose.proofs.PlaceWords.{places-append, length-unit}
 
 -- the units before record a are placed; the next starts at `at`, after gaps that add up to s, with floors f
 pub record LinePlacing (ws places₀ : List ℕ) (i j line x : ℕ) (e : Amounts) (c : Gap) (places : List ℕ) (a at : ℕ)
@@ -92,7 +93,7 @@ module _ {ws us gs places₀ : List ℕ} {i j line x : ℕ} {e : Amounts} {c : G
     unit-pasted after left k d h z =
         let u = unitAt ws a in
         paste-more (unitPlaces ws a line at) left (2 * count u) (2 * a) (2 * (k - i)) (rw z at (q .pasting))
-        (length-places line (map (λ o. at + o) (baseOffsets u)) ∙ ap (λ n. 2 * n) (length-unit at u))
+        (length-placesOf line (map (λ o. at + o) (baseOffsets u)) ∙ ap (λ n. 2 * n) (length-unit at u))
         (omega (arith, q .low)) (omega (arith, q .low)) (omega (arith, inside, p .room, q .low)) d
 
     -- n is the record after the unit

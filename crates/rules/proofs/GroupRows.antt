@@ -2,22 +2,14 @@
 use mathlib.Core.Path.{_≡_, refl, ap, sym, _∙_}
 use Prim.Native.Nat.{ℕ, zero, suc, _+_, _*_, _-_, _/_, _≤_, _<_, max}
 use native.Mathlib.Omega.{arith}
-use native.Mathlib.Nat.{add-zero, zero-add, add-suc, suc-add, add-assoc, suc-mul, mul-le-mul-left, mul-le-mul-right, mul-div-left}
+use native.Mathlib.Nat.{add-zero, zero-add, add-suc, suc-add, add-assoc, suc-mul, mul-le-mul-left, mul-le-mul-right}
 use mathlib.Core.List.{List, [], _∷_, _++_}
 use lib.ListN.{length, getD, length-append}
 use Rattle.rules.specs.Basics.{Run, whole}
 use Rattle.rules.specs.Records.{Rec}
 use Rattle.rules.specs.Groups.{TextUnit, count, advances, baseTotal, rubyTotal, groupAdvance, advance, shift, baseOffset, offsets, baseOffsets, rubyOffset}
+use Rattle.rules.proofs.Bounds.{shift-small}
 use Rattle.rules.proofs.Shares.{div-mono}
-
--- an item moves by at most the difference of the rows
-pub shift-within : (d n k : ℕ) → k < n → shift d n k ≤ d
-unfolding shift
-shift-within d zero k h = omega arith
-shift-within d (suc n) k h =
-    let a : d * (2 * k + 1) ≤ d * (2 * suc n) = mul-le-mul-left d (omega arith) in
-    let pos : 0 < 2 * suc n = omega arith in
-    omega (arith, div-mono (d * (2 * k + 1)) (d * (2 * suc n)) (2 * suc n) a, mul-div-left d pos)
 
 advances-append : (rs qs : List Rec) → advances (rs ++ qs) ≡ advances rs + advances qs
 unfolding advances
@@ -47,14 +39,14 @@ unfolding advance groupAdvance advances
 base-within u rs r qs e =
     let n : length rs < count u = omega (arith, ap length e, length-append rs (r ∷ qs)) in
     let d = rubyTotal (u .first .ruby) (u .first .size) - baseTotal u in
-    omega (arith, base-offset u rs r qs e, shift-within d (count u) (length rs) n, ap advances e, advances-append rs (r ∷ qs))
+    omega (arith, base-offset u rs r qs e, shift-small d (count u) (length rs) n, ap advances e, advances-append rs (r ∷ qs))
 
 -- a ruby character, half the size wide, ends within the group
 pub ruby-within : (base n s k : ℕ) → k < n → rubyOffset base n s k + s / 2 ≤ groupAdvance base n s
 unfolding rubyOffset groupAdvance
 ruby-within base n s k h =
     let a : suc k * (s / 2) ≤ n * (s / 2) = mul-le-mul-right (s / 2) h in
-    omega (arith, shift-within (base - rubyTotal n s) n k h, suc-mul k (s / 2))
+    omega (arith, shift-small (base - rubyTotal n s) n k h, suc-mul k (s / 2))
 
 -- items stand in order, one past the other
 pub shift-ordered : (d n k : ℕ) → shift d n k ≤ shift d n (suc k)

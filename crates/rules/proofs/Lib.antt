@@ -11,6 +11,7 @@ pub mod GroupRows
 pub mod Limits
 pub mod Words
 pub mod Lengths
+pub mod Zeros
 pub mod Claims
 pub mod Bounds
 pub mod Gaps

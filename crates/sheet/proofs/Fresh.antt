@@ -13,16 +13,9 @@ use borrow.Rule.Slice.PartMut.{putMid, same-len-mid}
 use Rattle.rules.specs.Basics.{zeros}
 use Rattle.rules.specs.Sheet.{fresh}
 use Rattle.rules.specs.Refusals.{freshSlots}
+use Rattle.rules.proofs.Zeros.{length-zeros, zeros-append}
 
 -- Zeros -------------------------------------------------------------------------------------------------------------
-
-pub length-zeros : (n : ℕ) → length (zeros n) ≡ n
-unfolding zeros
-length-zeros n = length-replicate n 0
-
-pub zeros-append : (m n : ℕ) → zeros m ++ zeros n ≡ zeros (m + n)
-unfolding zeros
-zeros-append m n = replicate-append-replicate m n 0
 
 -- a loop that clears words: the first i of them are 0
 pub record Cleared (old words : List ℕ) (i : ℕ) : Type 0 where

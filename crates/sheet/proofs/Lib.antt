@@ -1,3 +1,5 @@
+-- Laws of the calls on a sheet and of the book, each file leaning on those above it. `Claims` states what is proved, in
+-- reading order.
 pub mod Tables
 pub mod Entry
 pub mod Lists
@@ -8,8 +10,8 @@ pub mod Slots
 pub mod Steps
 pub mod Sequences
 pub mod Frame
-pub mod Changes
 pub mod Alike
+pub mod Changes
 pub mod Runs
 pub mod Histories
 pub mod Claims

@@ -14,7 +14,7 @@ use Rattle.rules.specs.Adjustment.{Line, linesOf, compose}
 use Rattle.rules.specs.Sheet.{placeWords, lineWords, head, slotWords, fresh}
 use Rattle.rules.specs.Sheet.{clinicOf, measureOf, indentOf, countOf, lineCountOf, recordsOf}
 use Rattle.rules.proofs.Facts.{cons-path}
-use Rattle.sheet.proofs.Fresh.{length-zeros, zeros-append}
+use Rattle.rules.proofs.Zeros.{length-zeros, zeros-append}
 use Rattle.rules.proofs.Lengths.{length-lineWords, composed-places, composed-few}
 
 -- Records as words --------------------------------------------------------------------------------------------------

@@ -5,7 +5,6 @@ use mathlib.Core.List.{List, _++_}
 use mathlib.Core.Bool.{true}
 use Prim.Native.Nat.{ℕ, _+_, _-_, _*_, _/_, _%_, _≤_, _<_}
 use native.Mathlib.Omega.{arith}
-use native.Mathlib.Nat.{mul-comm}
 use lib.ListN.{length, take, drop, length-append, length-drop}
 use lib.Seq.{take-at, drop-at, length-take-le}
 use Rattle.rules.specs.Basics.{zeros}
@@ -15,11 +14,7 @@ use Rattle.rules.specs.Refusals.{splice, edited}
 use Rattle.compose.specs.Paragraph.{size, paragraph}
 use Rattle.slot.specs.Slot.{spliced, Replaceable}
 use Rattle.slot.proofs.Spliced.{spliced-records, length-spliced}
-use Rattle.slot.proofs.Replaced.{drop-zeros}
-
-length-zeros : (n : ℕ) → length (zeros n) ≡ n
-unfolding zeros
-length-zeros n = lib.ListN.length-replicate n 0
+use Rattle.rules.proofs.Zeros.{length-zeros, drop-zeros}
 
 module _ (s : List ℕ) (p d : ℕ) (ins : List ℕ) (len : length s ≡ 2824) (few : countOf s ≤ 256) (within : p + d ≤ countOf s)
     (whole : length ins % 6 ≡ 0)

@@ -6,7 +6,7 @@ use mathlib.Core.Option.{Option, none, some}
 use Prim.Native.Nat.{ℕ, zero, suc, _+_, _-_, _*_, _/_, _%_, _≤_, _<_}
 use native.Mathlib.Omega.{arith}
 use lib.Dec.{eqb}
-use native.Mathlib.Nat.{sub-zero, suc-sub-suc, zero-add}
+use native.Mathlib.Nat.{zero-add}
 use lib.ListN.{length, take, drop, take-append-drop}
 use lib.Seq.{paste, take-all, take-length, length-take-le}
 use borrow.Author.Tests.{ne-eqb}
@@ -17,6 +17,7 @@ use Rattle.rules.specs.Breaks.{noBreaking}
 use Rattle.rules.specs.Adjustment.{Line, compose}
 use Rattle.rules.specs.Sheet.{head, slotOf, slotWords, placeWords, lineWords, clinicOf, measureOf, indentOf}
 use Rattle.rules.specs.Refusals.{Answer, Outcome, says, orElse, judged}
+use Rattle.rules.proofs.Zeros.{drop-zeros}
 use Rattle.rules.proofs.Words.{words-records, length-records}
 use Rattle.rules.proofs.Lengths.{composed-places, composed-lines, composed-few}
 use Rattle.compose.specs.Paragraph.{size, paragraph}
@@ -30,12 +31,6 @@ unfolding replaced
 refused-slot s rs number place z e = rw (e, ne-eqb number 0 z)
 
 -- words at the front of zeros
-pub drop-zeros : (n k : ℕ) → k ≤ n → drop k (zeros n) ≡ zeros (n - k)
-unfolding zeros
-drop-zeros n zero h = rw sub-zero
-drop-zeros zero (suc k) h = let z : ⊥ = omega arith in absurd z
-drop-zeros (suc n) (suc k) h = rw suc-sub-suc (drop-zeros n k (omega arith))
-
 padded-paste : (n k : ℕ) (ws : List ℕ) → length ws ≡ k → k ≤ n → paste (zeros n) 0 ws k ≡ padded n ws
 padded-paste n k ws e h = rw (← e, take-length, zero-add) (ap (λ l. ws ++ l) (drop-zeros n (length ws) (omega arith)))
 

@@ -1,19 +1,24 @@
 -- `sheet::setting::set_up` meets its contract. Assumes nothing.
 use mathlib.Core.Path.{sym, _∙_}
-use Rattle.sheet.proofs.Tables.{same-number}
-use Rattle.sheet.proofs.Lists.{accepted, set-up-refused, set-up-accepted}
+use lib.ListN.{length}
 use borrow.Author.Needs.{needs}
+use denote.Ref.{now}
+use Rattle.sheet.proofs.Tables.{same-number}
+use Rattle.sheet.proofs.Lists.{Fitting, accepted, set-up-refused, set-up-accepted}
 use Rattle.sheet.proofs.setting.set_up.Statement.{statement}
 use Rattle.sheet.proofs.setting.set_up.Tie as tie
 
 set-up-answer-requires : tie.Need-set-up-answer-requires
 set-up-answer-requires c κs = search needs
 
+-- what an accepted set-up knows of its lists
+fits : (c : tie.Then1) →
+    let a = c .before .before .before .before .before .before .before .args in
+    Fitting (now (a .clinics)) (now (a .measures)) (now (a .indents)) (length (now (a .sheet)))
+fits c = accepted _ _ _ _ (same-number (sym (c .before .before .set-up-answer .ensures)) ∙ c .if1 .taken)
+
 write-slots-requires : tie.Need-write-slots-requires
-write-slots-requires c κs =
-    let d = c .before in
-    let f = accepted _ _ _ _ (same-number (sym (d .before .before .set-up-answer .ensures)) ∙ d .if1 .taken) in
-    (f .matched, f .exact)
+write-slots-requires c κs = let f = fits (c .before) in (f .matched, f .exact)
 
 same-length : tie.Need-same-length
 same-length c = search needs
