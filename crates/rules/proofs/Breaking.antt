@@ -153,6 +153,16 @@ breaking-exists m x us = (
   λ c. fit-runs m x 0 (runs us) (rw (c .1 .joins-up) at (choice-runs m x (c .0) (c .1 .permitted) (c .2))),
 )
 
+-- and due exactly where none does
+pub due-exactly : (m x : ℕ) (us : List TextUnit) →
+    ((i : ℕ) × (noBreaking m x us ≡ some i)) ↔ (((ls : List (Run TextUnit)) × Choice us ls × Fits m x ls) → ⊥)
+due-exactly m x us = (λ d c. some-none (sym (d .1) ∙ breaking-exists m x us .1 c), λ n. from (noBreaking m x us) refl n)
+  where
+    from : (o : Option ℕ) → noBreaking m x us ≡ o → (((ls : List (Run TextUnit)) × Choice us ls × Fits m x ls) → ⊥) →
+        (i : ℕ) × (noBreaking m x us ≡ some i)
+    from none e n = absurd (n (breaking-exists m x us .0 e))
+    from (some i) e n = (i, e)
+
 -- its place: the first record of the first run that is too wide
 
 pub counts-append : (us vs : List TextUnit) → counts (us ++ vs) ≡ counts us + counts vs

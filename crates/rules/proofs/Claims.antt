@@ -12,11 +12,11 @@ use Rattle.rules.specs.Records.{Rec}
 use Rattle.rules.specs.Groups.{TextUnit, sameGroup, units, advance, groupAdvance, baseOffsets, rubyOffset}
 use Rattle.rules.specs.Breaks.{Gap, bound, width, runs, noBreaking, breaking}
 use Rattle.rules.specs.Adjustment.{amountsOf, totals, natural, Line, lineOf}
-use Rattle.rules.specs.Meanings.{All, TiedRun, lastOf, Maximal, Boundary, OneUnit, Choice, Fits, Longest, FirstWide, GapAt, WithinLimits, FirstStageFull}
+use Rattle.rules.specs.Meanings.{All, lastOf, Maximal, Boundary, OneUnit, Choice, Fits, Longest, FirstWide, GapAt, WithinLimits, FirstStageFull}
 use Rattle.rules.proofs.Facts.{some-none}
 use Rattle.rules.proofs.Cases.{rows, right, cases-hold}
-use Rattle.rules.proofs.Cuts.{cut-maximal, maximal-only, boundary-exact, unit-one}
-use Rattle.rules.proofs.Breaking.{breaking-exists, place-of-10, breaking-choice, lines-fit, lines-longest}
+use Rattle.rules.proofs.Cuts.{cut-maximal, maximal-only, boundary-exact, units-one}
+use Rattle.rules.proofs.Breaking.{breaking-exists, due-exactly, place-of-10, breaking-choice, lines-fit, lines-longest}
 use Rattle.rules.proofs.Unique.{only-lines}
 use Rattle.rules.proofs.Ends.{ends-within, wide-ends, flush-ends, short-ends, final-ends, within-limits, first-stage-full}
 use Rattle.rules.proofs.GroupRows.{base-within, ruby-within}
@@ -33,9 +33,9 @@ pub units-only : (rs : List Rec) (us : List TextUnit) → Maximal sameGroup rs u
 unfolding units
 units-only rs us h = maximal-only sameGroup rs us h
 
--- a unit is a single record, or records of one non-zero group
-pub unit-is : (u : TextUnit) → TiedRun sameGroup u → OneUnit u
-unit-is u h = unit-one u h
+-- each unit is a single record, or records of one non-zero group
+pub units-are : (rs : List Rec) → All OneUnit (units rs)
+units-are rs = units-one rs
 
 -- in a group each item of the shorter row stays within the longer row: a record r of the base row, and ruby character k
 pub base-row-within : (u : TextUnit) (rs : List Rec) (r : Rec) (qs : List Rec) → whole u ≡ rs ++ r ∷ qs →
@@ -56,6 +56,11 @@ runs-boundaries u us v vs = boundary-exact bound u us v vs
 -- answer 10 is not due exactly where some choice of permitted breaks has every line within the measure
 pub no-10-exactly : (m x : ℕ) (us : List TextUnit) → (noBreaking m x us ≡ none) ↔ ((ls : List (Run TextUnit)) × Choice us ls × Fits m x ls)
 no-10-exactly m x us = breaking-exists m x us
+
+-- so it is due exactly where there is none
+pub answer-10-exactly : (m x : ℕ) (us : List TextUnit) →
+    ((i : ℕ) × (noBreaking m x us ≡ some i)) ↔ (((ls : List (Run TextUnit)) × Choice us ls × Fits m x ls) → ⊥)
+answer-10-exactly m x us = due-exactly m x us
 
 -- where it is due there is no such choice, and its place is the first record of the first run that is too wide
 pub answer-10 : (m x : ℕ) (us : List TextUnit) (i : ℕ) → noBreaking m x us ≡ some i →

@@ -174,7 +174,7 @@ tied-group (tied-more {a = p} {b = r} {bs = rs} e h) =
     all-more (sym (g .1)) (rw (← g .1) at (tied-group h))
 
 -- a unit is a single record or a run of one non-zero group
-pub unit-one : (u : TextUnit) → TiedRun sameGroup u → OneUnit u
+unit-one : (u : TextUnit) → TiedRun sameGroup u → OneUnit u
 unit-one u h = from (u .rest) h refl
   where
     from : (rs : List Rec) → Tied sameGroup (u .first) rs → u .rest ≡ rs → OneUnit u
@@ -183,3 +183,11 @@ unit-one u h = from (u .rest) h refl
       where
         nonzero : {rs : List Rec} → Tied sameGroup (u .first) (r ∷ rs) → u .first .group ≡ 0 → ⊥
         nonzero (tied-more e h) z = let g = same-group (u .first) r e in g .0 (sym (g .1) ∙ z)
+
+all-one : {us : List TextUnit} → All (TiedRun sameGroup) us → All OneUnit us
+all-one all-none = all-none
+all-one (all-more {a = u} h hs) = all-more (unit-one u h) (all-one hs)
+
+pub units-one : (rs : List Rec) → All OneUnit (units rs)
+unfolding units
+units-one rs = all-one (cut-tied sameGroup rs)
