@@ -81,7 +81,8 @@ module _ (ws : List ℕ) (r : ℕ) (out : size ws ≤ r) where
   pub no-9 : r ≡ placeOr (size ws) (groupFault (paragraph ws)) → groupFault (paragraph ws) ≡ none
   no-9 e = unnamed (size ws) r _ (λ i q. omega (arith, fault-within i (paragraph ws) q, len)) e out
 
-  pub no-10 : (m x : ℕ) → r ≡ placeOr (size ws) (noBreaking m x (units (paragraph ws))) → noBreaking m x (units (paragraph ws)) ≡ none
+  pub no-10 : (m x : ℕ) → r ≡ placeOr (size ws) (noBreaking m x (units (paragraph ws))) →
+      noBreaking m x (units (paragraph ws)) ≡ none
   no-10 m x e = unnamed (size ws) r _ (λ i q. omega (arith, wide-within m x i (paragraph ws) q, len)) e out
 
 module _ (m x : ℕ) (rs : List Rec) where
@@ -93,7 +94,8 @@ module _ (m x : ℕ) (rs : List Rec) where
   unfolding judged
   judged-9 i a e = rw (a, e)
 
-  pub judged-10 : (i : ℕ) → badRecord 0 rs ≡ none → groupFault rs ≡ none → noBreaking m x (units rs) ≡ some i → judged m x rs ≡ says 10 i
+  pub judged-10 : (i : ℕ) → badRecord 0 rs ≡ none → groupFault rs ≡ none → noBreaking m x (units rs) ≡ some i →
+      judged m x rs ≡ says 10 i
   unfolding judged
   judged-10 i a b e = rw (a, b, e)
 
@@ -103,17 +105,20 @@ module _ (m x : ℕ) (rs : List Rec) where
   judged-0 a b e = rw (a, b, e)
 
 -- a refusal and an acceptance, as the contract of `judge` has them
-pub refusal : (ws : List ℕ) (m x : ℕ) (us gs rs : List ℕ) (n p number place : ℕ) → (number ≡ n) × (place ≡ p) → (n ≡ 0 → ⊥) →
+pub refusal : (ws : List ℕ) (m x : ℕ) (us gs rs : List ℕ) (n p number place : ℕ) → (number ≡ n) × (place ≡ p) →
+    (n ≡ 0 → ⊥) →
     judged m x (paragraph ws) ≡ says n p → Judged ws m x us gs rs number place
 refusal ws m x us gs rs n p number place e z h =
     record { refused = λ q. rw (e .0, e .1) h; accepted = λ q. absurd (z (sym (e .0) ∙ q)) }
 
-pub acceptance : (ws : List ℕ) (m x : ℕ) (us gs rs : List ℕ) (number place : ℕ) → number ≡ 0 → Accepted ws m x us gs rs →
+pub acceptance : (ws : List ℕ) (m x : ℕ) (us gs rs : List ℕ) (number place : ℕ) → number ≡ 0 →
+    Accepted ws m x us gs rs →
     Judged ws m x us gs rs number place
 acceptance ws m x us gs rs number place e h = record { refused = λ q. absurd (q e); accepted = λ q. h }
 
 -- the number of `judge` is 0 where no answer applies
-pub judged-number : (ws : List ℕ) (m x : ℕ) (us gs rs : List ℕ) (number place : ℕ) → Judged ws m x us gs rs number place →
+pub judged-number : (ws : List ℕ) (m x : ℕ) (us gs rs : List ℕ) (number place : ℕ) →
+    Judged ws m x us gs rs number place →
     eqb number 0 ≡ eqb (judged m x (paragraph ws) .number) 0
 judged-number ws m x us gs rs number place j =
     elim (tested (eqb number 0)) [
@@ -130,10 +135,12 @@ unfolding compose
 lines-composed ws m x = length-linesOf m x (broken ws m x)
 
 pub lines-within : (ws : List ℕ) (m x : ℕ) → length (broken ws m x) ≤ size ws
-lines-within ws m x = omega (arith, lines-composed ws m x, composed-few m x (paragraph ws), length-records ws 0 (size ws))
+lines-within ws m x =
+    omega (arith, lines-composed ws m x, composed-few m x (paragraph ws), length-records ws 0 (size ws))
 
 -- what `compose` answers where nothing is refused
-pub composing : (ws : List ℕ) (m x : ℕ) (us gs rs places₀ lines₀ places lines starts : List ℕ) (count number place : ℕ) →
+pub composing : (ws : List ℕ) (m x : ℕ) (us gs rs places₀ lines₀ places lines starts : List ℕ)
+    (count number place : ℕ) →
     Accepted ws m x us gs rs → Broken ws m x starts count → Written ws places₀ lines₀ places lines count m x →
     (number ≡ 0) × (place ≡ count) → Composed ws m x places₀ lines₀ places lines number place
 composing ws m x us gs rs places₀ lines₀ places lines starts count number place a b w e =

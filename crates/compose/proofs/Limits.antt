@@ -12,10 +12,12 @@ use Rattle.rules.specs.Records.{Rec, recAt, records}
 use Rattle.rules.specs.Groups.{TextUnit, sameGroup, units, count, counts, advances, baseTotal, advance, sideBy}
 use Rattle.rules.specs.Breaks.{Gap, bound, smallest, width}
 use Rattle.rules.proofs.Facts.{tested, ordered}
-use Rattle.rules.proofs.Limits.{RecordBounds, record-bounds, records-ok, headCount, units-few, advance-bound-of, GapBounds, gap-bounds}
+use Rattle.rules.proofs.Limits.{RecordBounds, record-bounds, records-ok, headCount, units-few, advance-bound-of}
+use Rattle.rules.proofs.Limits.{GapBounds, gap-bounds}
 use Rattle.rules.proofs.Words.{drop-records}
 use Rattle.compose.specs.Paragraph.{size, paragraph, from, unitAt, nextAt, gapAfter, runAt, runEnd, Checked}
-use Rattle.compose.proofs.Walk.{records-from, unit-step, unit-last, unit-more, run-step, run-last, run-more, run-width}
+use Rattle.compose.proofs.Walk.{records-from, unit-step, unit-last, unit-more, run-step, run-last, run-more}
+use Rattle.compose.proofs.Walk.{run-width}
 
 module _ (ws : List ℕ) (k : Checked ws) where
   dropped : (i : ℕ) → i < size ws → drop i (paragraph ws) ≡ records ws i (size ws - i)
@@ -23,12 +25,14 @@ module _ (ws : List ℕ) (k : Checked ws) where
 
   pub record-limits : (i : ℕ) → i < size ws → RecordBounds (recAt ws i)
   record-limits i h =
-      record-bounds (recAt ws i) (records-ok 0 (paragraph ws) (k .sound) i (recAt ws i) _ (dropped i h ∙ records-from ws i h))
+      record-bounds (recAt ws i) (records-ok 0 (paragraph ws) (k .sound) i (recAt ws i) _
+      (dropped i h ∙ records-from ws i h))
 
   pub unit-records : (i : ℕ) → i < size ws → count (unitAt ws i) ≤ 16
   unfolding from
   unit-records i h =
-      let e : headCount (units (drop i (paragraph ws))) ≡ count (unitAt ws i) = ap (λ rs. headCount (units rs)) (dropped i h) ∙ ap headCount (unit-step ws i h .rest) in
+      let e : headCount (units (drop i (paragraph ws))) ≡ count (unitAt ws i) =
+      ap (λ rs. headCount (units rs)) (dropped i h) ∙ ap headCount (unit-step ws i h .rest) in
       rw e at (units-few (paragraph ws) (k .grouped) i)
 
   -- each record of a unit takes at most 8,000; n records are left from record i on
@@ -53,13 +57,15 @@ module _ (ws : List ℕ) (k : Checked ws) where
   unit-advance i h =
       let b = record-limits i h in
       let s = unit-step ws i h in
-      advance-bound-of (baseTotal (unitAt ws i)) (unitAt ws i .first .ruby) (unitAt ws i .first .size) (unit-base i h) (rw (s .first) (b .ruby))
+      advance-bound-of (baseTotal (unitAt ws i)) (unitAt ws i .first .ruby) (unitAt ws i .first .size) (unit-base i h)
+      (rw (s .first) (b .ruby))
       (rw (s .first) (b .size))
 
   pub gap-limits : (i : ℕ) → i < size ws → nextAt ws i < size ws → GapBounds (gapAfter ws i)
   unfolding gapAfter sideBy
   gap-limits i h g =
-      gap-bounds (sideBy (recAt ws i)) (sideBy (recAt ws (nextAt ws i))) (record-limits i h .size) (record-limits (nextAt ws i) g .size)
+      gap-bounds (sideBy (recAt ws i)) (sideBy (recAt ws (nextAt ws i))) (record-limits i h .size)
+      (record-limits (nextAt ws i) g .size)
 
   -- a run's smallest width, where at most n records are left from record i on
   width-from : (n i : ℕ) → i < size ws → size ws - i ≤ n → width (runAt ws i) ≤ 132000 * n
@@ -73,7 +79,13 @@ module _ (ws : List ℕ) (k : Checked ws) where
         | inl g ↦
             elim (tested (bound (unitAt ws i) (unitAt ws (nextAt ws i)))) [
               | inr b ↦ rw (run-more ws i h g, b) (omega arith)
-              | inl b ↦ omega (arith, width-from n (nextAt ws i) g (omega arith), gap-limits i h g, run-width ws i h g b)
+              | inl b ↦ omega (
+                arith,
+                width-from n (nextAt ws i) g (omega arith),
+                gap-limits i h g,
+                run-width ws i h g
+                    b,
+              )
             ]
       ]
 

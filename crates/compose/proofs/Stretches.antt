@@ -18,7 +18,8 @@ upTo-zero [] = refl
 upTo-zero (u ∷ us) = refl
 
 -- a line that goes on past its first unit
-pub line-more : (ws : List ℕ) (i j : ℕ) → nextAt ws i < j → j ≤ size ws → lineAt ws i j .rest ≡ whole (lineAt ws (nextAt ws i) j)
+pub line-more : (ws : List ℕ) (i j : ℕ) → nextAt ws i < j → j ≤ size ws →
+    lineAt ws i j .rest ≡ whole (lineAt ws (nextAt ws i) j)
 unfolding lineAt upTo
 line-more ws i j h k =
     let n = nextAt ws i in
@@ -47,6 +48,8 @@ line-is ws i l vs h e =
     let s = unit-step ws i h in
     let p : l .first ≡ unitAt ws i = cc in
     let q : l .rest ++ vs ≡ from ws (nextAt ws i) = cc in
-    let n : i + (count (l .first) + counts (l .rest)) - nextAt ws i ≡ counts (l .rest) = omega (arith, ap (λ u. count u) p) in
-    let r : upTo (i + (count (l .first) + counts (l .rest)) - nextAt ws i) (from ws (nextAt ws i)) ≡ l .rest = rw (n, ← q) (upTo-all (l .rest) vs) in
+    let n : i + (count (l .first) + counts (l .rest)) - nextAt ws i ≡ counts (l .rest) =
+    omega (arith, ap (λ u. count u) p) in
+    let r : upTo (i + (count (l .first) + counts (l .rest)) - nextAt ws i) (from ws (nextAt ws i)) ≡ l .rest =
+    rw (n, ← q) (upTo-all (l .rest) vs) in
     λ t. record { first = sym p t; rest = r t }

@@ -54,16 +54,20 @@ headed ws i h =
     let u = f .0 in
     let us = f .1 in
     let e : from ws i ≡ u ∷ us = ap (λ rs. cut sameGroup rs) (records-from ws i h) ∙ f .2 in
-    let j : whole u ++ joined us ≡ records ws i (size ws - i) = sym (ap (λ ls. joined ls) e) ∙ cut-joined sameGroup (records ws i (size ws - i)) in
+    let j : whole u ++ joined us ≡ records ws i (size ws - i) =
+    sym (ap (λ ls. joined ls) e) ∙ cut-joined sameGroup (records ws i (size ws - i)) in
     let n : count u + length (joined us) ≡ size ws - i =
     sym (length-append (whole u) (joined us)) ∙ ap length j ∙ length-records ws i (size ws - i) in
     let d : joined us ≡ records ws (i + count u) (size ws - i - count u) =
-    sym (drop-at (whole u) (joined us) (count u) refl) ∙ ap (λ rs. drop (count u) rs) j ∙ drop-records ws i (size ws - i) (count u) (omega arith) in
+    sym (drop-at (whole u) (joined us) (count u) refl) ∙ ap (λ rs. drop (count u) rs) j
+    ∙ drop-records ws i (size ws - i) (count u) (omega arith) in
     let m : size ws - i - count u ≡ size ws - (i + count u) = omega arith in
     record {
       unit = u;
       first = f .3;
-      rest = e ∙ ap (λ t. u ∷ t) (cut-tail sameGroup (records ws i (size ws - i)) u us e ∙ ap (λ rs. cut sameGroup rs) (rw m at d));
+      rest =
+          e ∙ ap (λ t. u ∷ t) (cut-tail sameGroup (records ws i (size ws - i)) u us e
+          ∙ ap (λ rs. cut sameGroup rs) (rw m at d));
       within = omega arith;
     }
 
@@ -93,13 +97,15 @@ pub unit-last : (ws : List ℕ) (i : ℕ) → i + 1 ≡ size ws → unitAt ws i 
 unit-last ws i h = rw (unit-is, from-tie ws i (omega arith), from-end ws (i + 1) (omega arith))
 
 pub unit-more : (ws : List ℕ) (i : ℕ) → i + 1 < size ws →
-    unitAt ws i ≡ cond (sameGroup (recAt ws i) (recAt ws (i + 1))) (then (alone (recAt ws i)) (unitAt ws (i + 1))) (alone (recAt ws i))
+    unitAt ws i ≡ cond (sameGroup (recAt ws i) (recAt ws (i + 1))) (then (alone (recAt ws i)) (unitAt ws (i + 1)))
+    (alone (recAt ws i))
 unit-more ws i h =
     let s = unit-step ws (i + 1) h in
     unit-is ws i
     ∙ ap (headOr (alone (recAt ws i))) (from-tie ws i (omega arith) ∙ ap (tie sameGroup (recAt ws i)) (s .rest))
     ∙ tie-head sameGroup (recAt ws i) _ (unitAt ws (i + 1)) _
-    ∙ ap (λ r. cond (sameGroup (recAt ws i) r) (then (alone (recAt ws i)) (unitAt ws (i + 1))) (alone (recAt ws i))) (s .first)
+    ∙ ap (λ r. cond (sameGroup (recAt ws i) r) (then (alone (recAt ws i)) (unitAt ws (i + 1))) (alone (recAt ws i)))
+    (s .first)
 
 -- runs -----------------------------------------------------------------------------------------------------------
 
@@ -164,7 +170,8 @@ run-last ws i h e =
     rw (run-is, s .rest, runs-tie, runs-end ws (nextAt ws i) (omega arith))
 
 pub run-more : (ws : List ℕ) (i : ℕ) → i < size ws → nextAt ws i < size ws →
-    runAt ws i ≡ cond (bound (unitAt ws i) (unitAt ws (nextAt ws i))) (then (alone (unitAt ws i)) (runAt ws (nextAt ws i))) (alone (unitAt ws i))
+    runAt ws i ≡ cond (bound (unitAt ws i) (unitAt ws (nextAt ws i)))
+    (then (alone (unitAt ws i)) (runAt ws (nextAt ws i))) (alone (unitAt ws i))
 run-more ws i h g =
     let s = unit-step ws i h in
     let n = nextAt ws i in
@@ -176,7 +183,8 @@ run-more ws i h g =
     ∙ ap (λ v. cond (bound (unitAt ws i) v) (then (alone (unitAt ws i)) (runAt ws n)) (alone (unitAt ws i))) (r .first)
 
 -- the gap between two units that follow each other
-pub gap-is : (ws : List ℕ) (i : ℕ) → i < size ws → nextAt ws i < size ws → gap (unitAt ws i) (unitAt ws (nextAt ws i)) ≡ gapAfter ws i
+pub gap-is : (ws : List ℕ) (i : ℕ) → i < size ws → nextAt ws i < size ws →
+    gap (unitAt ws i) (unitAt ws (nextAt ws i)) ≡ gapAfter ws i
 unfolding gapAfter
 gap-is ws i h g = rw (unit-step ws i h .first, unit-step ws (nextAt ws i) g .first)
 
@@ -186,7 +194,8 @@ pub bound-is : (ws : List ℕ) (i : ℕ) → i < size ws → nextAt ws i < size 
 bound-is ws i h g = rw (unit-step ws i h .first, unit-step ws (nextAt ws i) g .first)
 
 -- a unit and the run that it is bound to: their width, their records, and the last unit
-module _ (ws : List ℕ) (i : ℕ) (h : i < size ws) (g : nextAt ws i < size ws) (b : bound (unitAt ws i) (unitAt ws (nextAt ws i)) ≡ true) where
+module _ (ws : List ℕ) (i : ℕ) (h : i < size ws) (g : nextAt ws i < size ws)
+    (b : bound (unitAt ws i) (unitAt ws (nextAt ws i)) ≡ true) where
   run-bound : runAt ws i ≡ then (alone (unitAt ws i)) (runAt ws (nextAt ws i))
   run-bound = run-more ws i h g ∙ rw b
 
@@ -195,7 +204,8 @@ module _ (ws : List ℕ) (i : ℕ) (h : i < size ws) (g : nextAt ws i < size ws)
   run-width =
       let n = nextAt ws i in
       let whole-width : Gap → ℕ = λ e. advance (unitAt ws i) + (least e + width (runAt ws n)) in
-      ap width run-bound ∙ ap (λ v. whole-width (gap (unitAt ws i) v)) (run-step ws n g .first) ∙ ap whole-width (gap-is ws i h g)
+      ap width run-bound ∙ ap (λ v. whole-width (gap (unitAt ws i) v)) (run-step ws n g .first)
+      ∙ ap whole-width (gap-is ws i h g)
 
   pub run-records : counts (whole (runAt ws i)) ≡ count (unitAt ws i) + counts (whole (runAt ws (nextAt ws i)))
   unfolding counts

@@ -51,7 +51,8 @@ fn judge(
     runs: &mut [u32; 768],
 ) -> Answer
     requires { ⌜ Fitting (now ws) m x ⌝ }
-    ensures { λ r. ⌜ Judged (now (ws .entry)) m x (now (units .exit)) (now (gaps .exit)) (now (runs .exit)) (r .number) (r .place) ⌝ }
+    ensures { λ r. ⌜ Judged (now (ws .entry)) m x (now (units .exit)) (now (gaps .exit)) (now (runs .exit))
+        (r .number) (r .place) ⌝ }
 {
     let n = ws.len() / 6;
     let bad = first_bad_record(ws);
@@ -92,7 +93,8 @@ pub fn compose(
     lines: &mut [u32; 768],
 ) -> Answer
     requires { ⌜ Fitting (now ws) m x ⌝ }
-    ensures { λ r. ⌜ Composed (now (ws .entry)) m x (now (places .entry)) (now (lines .entry)) (now (places .exit)) (now (lines .exit)) (r .number) (r .place) ⌝ }
+    ensures { λ r. ⌜ Composed (now (ws .entry)) m x (now (places .entry)) (now (lines .entry))
+        (now (places .exit)) (now (lines .exit)) (r .number) (r .place) ⌝ }
 {
     let mut units = [0u32; 768];
     let mut gaps = [0u32; 1280];

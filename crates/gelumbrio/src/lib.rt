@@ -1,5 +1,5 @@
-// The calls for programs in C and Rust. A slice passes as a pointer, then its length in words. The header that declares them
-// is include/gelumbrio.h.
+// The calls for programs in C and Rust. A slice passes as a pointer, then its length in words. The header that declares
+// them is include/gelumbrio.h.
 use sheet::Answer;
 use sheet::Clinic;
 use sheet::RubyPlace;
@@ -22,7 +22,8 @@ pub extern "C" fn gelumbrio_set_up(
     measures: &[u32],
     indents: &[u32],
 ) -> Answer
-    ensures { λ r. ⌜ (says (r .number) (r .place), now (sheet .exit)) ≡ setUp (now (sheet .entry)) (now (clinics .entry)) (now (measures .entry)) (now (indents .entry)) ⌝ }
+    ensures { λ r. ⌜ (says (r .number) (r .place), now (sheet .exit)) ≡
+        setUp (now (sheet .entry)) (now (clinics .entry)) (now (measures .entry)) (now (indents .entry)) ⌝ }
 {
     sheet::set_up(sheet, clinics, measures, indents)
 }
@@ -36,7 +37,8 @@ pub extern "C" fn gelumbrio_edit(
     deleted: u32,
     inserted: &[u32],
 ) -> Answer
-    ensures { λ r. ⌜ (says (r .number) (r .place), now (sheet .exit)) ≡ edit (now (sheet .entry)) (caller .0) (slot .0) place deleted (now (inserted .entry)) ⌝ }
+    ensures { λ r. ⌜ (says (r .number) (r .place), now (sheet .exit)) ≡
+        edit (now (sheet .entry)) (caller .0) (slot .0) place deleted (now (inserted .entry)) ⌝ }
 {
     sheet::edit(sheet, caller, slot, place, deleted, inserted)
 }
@@ -50,7 +52,8 @@ pub extern "C" fn gelumbrio_read_number(sheet: &[u32], caller: Clinic, slot: Slo
 
 #[no_mangle]
 pub extern "C" fn gelumbrio_read(sheet: &[u32], caller: Clinic, slot: SlotNumber) -> Part
-    ensures { λ r. ⌜ (r .start ≡ readStart (now (sheet .entry)) (caller .0) (slot .0)) × (r .length ≡ readLength (now (sheet .entry)) (caller .0) (slot .0)) ⌝ }
+    ensures { λ r. ⌜ (r .start ≡ readStart (now (sheet .entry)) (caller .0) (slot .0))
+        × (r .length ≡ readLength (now (sheet .entry)) (caller .0) (slot .0)) ⌝ }
 {
     if sheet::read_number(sheet, caller, slot) != 0 {
         return Part {

@@ -1,5 +1,5 @@
--- Answer 10 and the breaking: the lines are a choice of permitted breaks in which every line fits and is the longest, and
--- answer 10 is given exactly where there is no choice that fits. Assumes nothing.
+-- Answer 10 and the breaking: the lines are a choice of permitted breaks in which every line fits and is the longest,
+-- and answer 10 is given exactly where there is no choice that fits. Assumes nothing.
 use mathlib.Core.Path.{_≡_, refl, ap, sym, subst, _∙_}
 use Prim.Native.Nat.{ℕ, zero, suc, _+_, _≤_, _<_}
 use native.Mathlib.Omega.{arith}
@@ -13,7 +13,10 @@ use borrow.Author.Tests.{leb-true, leb-false, le-leb}
 use Rattle.rules.specs.Basics.{Run, alone, whole, then, joined, tie, cut}
 use Rattle.rules.specs.Groups.{TextUnit, advance, count, counts}
 use Rattle.rules.specs.Breaks.{bound, gap, least, smallest, width, runs, wideRun, noBreaking, filled, breaking}
-use Rattle.rules.specs.Meanings.{All, all-none, all-more, lastOf, lastIn, Tied, tied-one, tied-more, TiedRun, Apart, apart-none, apart-one, apart-more, Choice, Fits, fits-none, fits-more, EndsWell, at-end, at-break, Longest, longest-none, longest-more, startOf, FirstWide}
+use Rattle.rules.specs.Meanings.{All, all-none, all-more, lastOf, lastIn, Tied, tied-one, tied-more, TiedRun}
+use Rattle.rules.specs.Meanings.{Apart, apart-none, apart-one, apart-more, Choice, Fits, fits-none, fits-more}
+use Rattle.rules.specs.Meanings.{EndsWell, at-end, at-break, Longest, longest-none, longest-more, startOf}
+use Rattle.rules.specs.Meanings.{FirstWide}
 use Rattle.rules.proofs.Facts.{tested, true-false, nil-cons, some-none, some-same, cons-path}
 use Rattle.rules.proofs.Cuts.{last-append, joined-append, cut-joined, cut-tied, cut-apart, cut-first, cut-split}
 use Rattle.rules.proofs.Widths.{wider}
@@ -54,7 +57,8 @@ line-runs m x u (v ∷ us) h =
     let shorter = line-runs m 0 v us (omega arith) in
     rw (f .2) (tie-fits m x u (f .0) (f .1) (omega arith) (rw (f .3) (rw (f .2) at longer)) (rw (f .2) at shorter))
 
-fits-append : (m x : ℕ) (l : Run TextUnit) (ls ks : List (Run TextUnit)) → Fits m x (l ∷ ls) → Fits m 0 ks → Fits m x (l ∷ ls ++ ks)
+fits-append : (m x : ℕ) (l : Run TextUnit) (ls ks : List (Run TextUnit)) → Fits m x (l ∷ ls) → Fits m 0 ks →
+    Fits m x (l ∷ ls ++ ks)
 fits-append m x l [] ks (fits-more h f) g = fits-more h g
 fits-append m x l (j ∷ ls) ks (fits-more h f) g = fits-more h (fits-append m 0 j ls ks f g)
 
@@ -73,7 +77,8 @@ choice-runs m x (l ∷ k ∷ ls) (apart-more e p) (fits-more h f) =
 
 -- the lines: a choice of permitted breaks, and every line fits
 
-filled-fits : (m x : ℕ) (l : Run TextUnit) (ks : List (Run TextUnit)) → x + width l ≤ m → Fits m 0 ks → Fits m x (filled m x l ks)
+filled-fits : (m x : ℕ) (l : Run TextUnit) (ks : List (Run TextUnit)) → x + width l ≤ m → Fits m 0 ks →
+    Fits m x (filled m x l ks)
 unfolding filled
 filled-fits m x l [] h f = fits-more h f
 filled-fits m x l (k ∷ ks) h (fits-more g f) =
@@ -116,7 +121,8 @@ then-apart : (l k : Run TextUnit) {ks : List (Run TextUnit)} → Apart bound (k 
 then-apart l k apart-one = apart-one
 then-apart l k (apart-more {k = j} e h) = apart-more {l = then l k} {k = j} (rw last-append e) h
 
-filled-apart : (m x : ℕ) (l : Run TextUnit) (ks : List (Run TextUnit)) → Apart bound (l ∷ ks) → Apart bound (filled m x l ks)
+filled-apart : (m x : ℕ) (l : Run TextUnit) (ks : List (Run TextUnit)) → Apart bound (l ∷ ks) →
+    Apart bound (filled m x l ks)
 unfolding filled
 filled-apart m x l [] h = h
 filled-apart m x l (k ∷ ks) (apart-more g h) =
@@ -146,7 +152,8 @@ unfolding noBreaking
 lines-fit m x us h = breaking-fits m x (runs us) (runs-fit m x 0 (runs us) h)
 
 -- Answer 10 is not due exactly where some choice of permitted breaks fits
-pub breaking-exists : (m x : ℕ) (us : List TextUnit) → (noBreaking m x us ≡ none) ↔ ((ls : List (Run TextUnit)) × Choice us ls × Fits m x ls)
+pub breaking-exists : (m x : ℕ) (us : List TextUnit) →
+    (noBreaking m x us ≡ none) ↔ ((ls : List (Run TextUnit)) × Choice us ls × Fits m x ls)
 unfolding noBreaking runs
 breaking-exists m x us = (
   λ h. (breaking m x (runs us), breaking-choice m x us, lines-fit m x us h),
@@ -220,11 +227,13 @@ place-of-10 m x us i h =
 
 -- each line is the longest
 
-ends-shorter : {u v : TextUnit} {us vs : List TextUnit} → EndsWell (record { first = u; rest = v ∷ us }) vs → EndsWell (record { first = v; rest = us }) vs
+ends-shorter : {u v : TextUnit} {us vs : List TextUnit} → EndsWell (record { first = u; rest = v ∷ us }) vs →
+    EndsWell (record { first = v; rest = us }) vs
 ends-shorter at-end = at-end
 ends-shorter (at-break {v = w} e) = at-break {v = w} e
 
-ends-inside : {u v t : TextUnit} {us vs : List TextUnit} → bound u v ≡ true → t ≡ u → vs ≡ v ∷ us → EndsWell (alone t) vs → ⊥
+ends-inside : {u v t : TextUnit} {us vs : List TextUnit} → bound u v ≡ true → t ≡ u → vs ≡ v ∷ us →
+    EndsWell (alone t) vs → ⊥
 ends-inside b p q at-end = nil-cons q
 ends-inside {u} {v} {t} b p q (at-break {v = w} e) =
     let r : w ≡ v = cc in
@@ -232,8 +241,10 @@ ends-inside {u} {v} {t} b p q (at-break {v = w} e) =
     true-false (sym b ∙ f)
 
 -- a stretch of units that may end a line, where a tied run comes first, holds that whole run
-holds-run : (u : TextUnit) (us : List TextUnit) → Tied bound u us → (rest : List TextUnit) (t : TextUnit) (ts vs : List TextUnit) →
-    t ∷ ts ++ vs ≡ u ∷ us ++ rest → EndsWell (record { first = t; rest = ts }) vs → (ss : List TextUnit) × (t ∷ ts ≡ u ∷ us ++ ss)
+holds-run : (u : TextUnit) (us : List TextUnit) → Tied bound u us →
+    (rest : List TextUnit) (t : TextUnit) (ts vs : List TextUnit) →
+    t ∷ ts ++ vs ≡ u ∷ us ++ rest → EndsWell (record { first = t; rest = ts }) vs → (ss : List TextUnit) ×
+    (t ∷ ts ≡ u ∷ us ++ ss)
 holds-run u [] tied-one rest t ts vs e w = (ts, let p : t ≡ u = cc in rw p)
 holds-run u (v ∷ us) (tied-more b h) rest t [] vs e w =
     let p : t ≡ u = cc in
@@ -251,10 +262,12 @@ next-too-wide : (m x : ℕ) (l k : Run TextUnit) (ks : List (Run TextUnit)) → 
 unfolding joined
 next-too-wide m x l k ks h g t vs e w =
     let r = holds-run (k .first) (k .rest) h (joined ks) (t .first) (t .rest) vs e w in
-    let p : l .rest ++ whole t ≡ (l .rest ++ whole k) ++ r .0 = ap (λ us. l .rest ++ us) (r .1) ∙ sym (append-assoc (l .rest) (whole k) (r .0)) in
+    let p : l .rest ++ whole t ≡ (l .rest ++ whole k) ++ r .0 =
+    ap (λ us. l .rest ++ us) (r .1) ∙ sym (append-assoc (l .rest) (whole k) (r .0)) in
     le-trans g (rw p (omega (arith, wider (l .first) (l .rest ++ whole k) (r .0))))
 
-filled-longest : (m x : ℕ) (l : Run TextUnit) (ks : List (Run TextUnit)) → All (TiedRun bound) ks → Longest m x (filled m x l ks)
+filled-longest : (m x : ℕ) (l : Run TextUnit) (ks : List (Run TextUnit)) → All (TiedRun bound) ks →
+    Longest m x (filled m x l ks)
 unfolding filled joined
 filled-longest m x l [] h = longest-more (λ t vs e w. absurd (nil-cons (sym e))) longest-none
 filled-longest m x l (k ∷ ks) (all-more g h) =

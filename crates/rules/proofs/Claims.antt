@@ -12,13 +12,16 @@ use Rattle.rules.specs.Records.{Rec}
 use Rattle.rules.specs.Groups.{TextUnit, sameGroup, units, advance, groupAdvance, baseOffsets, rubyOffset}
 use Rattle.rules.specs.Breaks.{Gap, bound, width, runs, noBreaking, breaking}
 use Rattle.rules.specs.Adjustment.{amountsOf, totals, natural, Line, lineOf}
-use Rattle.rules.specs.Meanings.{All, lastOf, Maximal, Boundary, OneUnit, Choice, Fits, Longest, FirstWide, GapAt, WithinLimits, FirstStageFull}
+use Rattle.rules.specs.Meanings.{All, lastOf, Maximal, Boundary, OneUnit, Choice, Fits, Longest, FirstWide}
+use Rattle.rules.specs.Meanings.{GapAt, WithinLimits, FirstStageFull}
 use Rattle.rules.proofs.Facts.{some-none}
 use Rattle.rules.proofs.Cases.{rows, right, cases-hold}
 use Rattle.rules.proofs.Cuts.{cut-maximal, maximal-only, boundary-exact, units-one}
-use Rattle.rules.proofs.Breaking.{breaking-exists, due-exactly, place-of-10, breaking-choice, lines-fit, lines-longest}
+use Rattle.rules.proofs.Breaking.{breaking-exists, due-exactly, place-of-10, breaking-choice, lines-fit}
+use Rattle.rules.proofs.Breaking.{lines-longest}
 use Rattle.rules.proofs.Unique.{only-lines}
-use Rattle.rules.proofs.Ends.{ends-within, wide-ends, flush-ends, short-ends, final-ends, within-limits, first-stage-full}
+use Rattle.rules.proofs.Ends.{ends-within, wide-ends, flush-ends, short-ends, final-ends, within-limits}
+use Rattle.rules.proofs.Ends.{first-stage-full}
 use Rattle.rules.proofs.GroupRows.{base-within, ruby-within}
 
 -- Units ------------------------------------------------------------------------------------------------------------
@@ -54,7 +57,8 @@ unfolding runs
 runs-boundaries u us v vs = boundary-exact bound u us v vs
 
 -- answer 10 is not due exactly where some choice of permitted breaks has every line within the measure
-pub no-10-exactly : (m x : ℕ) (us : List TextUnit) → (noBreaking m x us ≡ none) ↔ ((ls : List (Run TextUnit)) × Choice us ls × Fits m x ls)
+pub no-10-exactly : (m x : ℕ) (us : List TextUnit) →
+    (noBreaking m x us ≡ none) ↔ ((ls : List (Run TextUnit)) × Choice us ls × Fits m x ls)
 no-10-exactly m x us = breaking-exists m x us
 
 -- so it is due exactly where there is none
@@ -73,11 +77,13 @@ pub lines-chosen : (m x : ℕ) (us : List TextUnit) → noBreaking m x us ≡ no
 lines-chosen m x us h = (breaking-choice m x us, lines-fit m x us h, lines-longest m x us)
 
 -- and no other lines are
-pub lines-only : (m x : ℕ) (us : List TextUnit) (ls : List (Run TextUnit)) → Choice us ls → Fits m x ls → Longest m x ls →
+pub lines-only : (m x : ℕ) (us : List TextUnit) (ls : List (Run TextUnit)) → Choice us ls → Fits m x ls →
+    Longest m x ls →
     noBreaking m x us ≡ none → ls ≡ breaking m x (runs us)
 lines-only m x us ls c f l h =
     let b = breaking-choice m x us in
-    only-lines m x ls (breaking m x (runs us)) (c .joins-up ∙ sym (b .joins-up)) (c .permitted) (b .permitted) f (lines-fit m x us h) l
+    only-lines m x ls (breaking m x (runs us)) (c .joins-up
+    ∙ sym (b .joins-up)) (c .permitted) (b .permitted) f (lines-fit m x us h) l
     (lines-longest m x us)
 
 -- Adjustment -------------------------------------------------------------------------------------------------------
@@ -97,15 +103,18 @@ module _ (m x : ℕ) (final : Bool) (l : Run TextUnit) (fits : x + width l ≤ m
   flush-line h = flush-ends m x final l fits h
 
   -- a short line ends below it and has no stage 2 gap
-  pub short-line : lineOf m x final l .kind ≡ 2 → (lineOf m x final l .end < m) × (totals (l .first) (l .rest) .stretch₂ ≡ 0)
+  pub short-line : lineOf m x final l .kind ≡ 2 →
+      (lineOf m x final l .end < m) × (totals (l .first) (l .rest) .stretch₂ ≡ 0)
   short-line h = short-ends m x final l fits h
 
   -- no gap leaves its stage's limits
-  pub gap-limits : (s g : Gap) → GapAt (l .first) (l .rest) s g → WithinLimits (amountsOf m x final l) (totals (l .first) (l .rest)) s g
+  pub gap-limits : (s g : Gap) → GapAt (l .first) (l .rest) s g →
+      WithinLimits (amountsOf m x final l) (totals (l .first) (l .rest)) s g
   gap-limits s g h = within-limits m x final l fits s g h
 
   -- stage 1 is full before stage 2 moves
-  pub stage-order : (s g : Gap) → GapAt (l .first) (l .rest) s g → FirstStageFull (amountsOf m x final l) (totals (l .first) (l .rest)) s g
+  pub stage-order : (s g : Gap) → GapAt (l .first) (l .rest) s g →
+      FirstStageFull (amountsOf m x final l) (totals (l .first) (l .rest)) s g
   stage-order s g h = first-stage-full m x final l fits s g h
 
 -- a final line that is not wider than the measure is left as it is

@@ -10,7 +10,9 @@ use Rattle.rules.specs.Basics.{Run, alone, whole, then, joined, tie, cut
 use Rattle.rules.specs.Records.{Rec}
 use Rattle.rules.specs.Groups.{TextUnit, joins, sameGroup, units}
 use Rattle.rules.proofs.Facts.{tested, true-false, nil-cons}
-use Rattle.rules.specs.Meanings.{All, all-none, all-more, lastOf, lastIn, Tied, tied-one, tied-more, TiedRun, Apart, apart-none, apart-one, apart-more, Maximal, Boundary, OneUnit, single, grouped}
+use Rattle.rules.specs.Meanings.{All, all-none, all-more, lastOf, lastIn, Tied, tied-one, tied-more, TiedRun}
+use Rattle.rules.specs.Meanings.{Apart, apart-none, apart-one, apart-more, Maximal, Boundary, OneUnit, single}
+use Rattle.rules.specs.Meanings.{grouped}
 
 -- the last element of a list that ends in a run
 pub last-append : {A : Type 0} (a : A) (bs : List A) (c : A) (cs : List A) → lastOf a (bs ++ c ∷ cs) ≡ lastOf c cs
@@ -20,7 +22,8 @@ last-append a (b ∷ bs) c cs = last-append b bs c cs
 pub joined-append : {A : Type 0} (ls ks : List (Run A)) → joined (ls ++ ks) ≡ joined ls ++ joined ks
 unfolding joined
 joined-append [] ks = refl
-joined-append (l ∷ ls) ks = ap (λ t. whole l ++ t) (joined-append ls ks) ∙ sym (append-assoc (whole l) (joined ls) (joined ks))
+joined-append (l ∷ ls) ks =
+    ap (λ t. whole l ++ t) (joined-append ls ks) ∙ sym (append-assoc (whole l) (joined ls) (joined ks))
 
 module _ {A : Type 0} (t : A → A → Bool) where
   tie-joined : (a : A) (ls : List (Run A)) → joined (tie t a ls) ≡ a ∷ joined ls
@@ -66,13 +69,15 @@ module _ {A : Type 0} (t : A → A → Bool) where
 
   -- a tied run is cut off whole before runs from which it is apart
   cut-run : (a : A) (bs : List A) (ls : List (Run A)) → cut t (joined ls) ≡ ls → Tied t a bs →
-      Apart t (record { first = a; rest = bs } ∷ ls) → cut t (a ∷ bs ++ joined ls) ≡ record { first = a; rest = bs } ∷ ls
+      Apart t (record { first = a; rest = bs } ∷ ls) → cut t (a ∷ bs ++ joined ls) ≡ record { first = a; rest = bs } ∷
+      ls
   unfolding cut
   cut-run a [] [] h tied-one g = rw h
   cut-run a [] (l ∷ ls) h tied-one (apart-more e g) = rw (h, e)
   cut-run a (b ∷ bs) ls h (tied-more e k) g = rw (cut-run b bs ls h k (without g), e)
     where
-      without : {ls : List (Run A)} → Apart t (record { first = a; rest = b ∷ bs } ∷ ls) → Apart t (record { first = b; rest = bs } ∷ ls)
+      without : {ls : List (Run A)} → Apart t (record { first = a; rest = b ∷ bs } ∷ ls) →
+          Apart t (record { first = b; rest = bs } ∷ ls)
       without apart-one = apart-one
       without (apart-more e h) = apart-more e h
 
@@ -130,12 +135,14 @@ module _ {A : Type 0} (t : A → A → Bool) where
   between l [] k ks (apart-more e h) = rw append-nil e
   between l (j ∷ ls) k ks (apart-more e h) = rw last-append (between j ls k ks h)
 
-  boundary-untied : {ls : List (Run A)} {a : A} {bs : List A} {c : A} {cs : List A} → Apart t ls → Boundary ls (a ∷ bs) (c ∷ cs) →
+  boundary-untied : {ls : List (Run A)} {a : A} {bs : List A} {c : A} {cs : List A} → Apart t ls →
+      Boundary ls (a ∷ bs) (c ∷ cs) →
       t (lastOf a bs) c ≡ false
   unfolding joined
   boundary-untied {ls} {a} {bs} {c} {cs} h b = from (b .before) (b .after) (b .all) (b .left) (b .right)
     where
-      from : (before after : List (Run A)) → before ++ after ≡ ls → joined before ≡ a ∷ bs → joined after ≡ c ∷ cs → t (lastOf a bs) c ≡ false
+      from : (before after : List (Run A)) → before ++ after ≡ ls → joined before ≡ a ∷ bs → joined after ≡ c ∷ cs →
+          t (lastOf a bs) c ≡ false
       from [] after e f g = absurd (nil-cons f)
       from (l ∷ before) [] e f g = absurd (nil-cons g)
       from (l ∷ before) (k ∷ after) e f g =

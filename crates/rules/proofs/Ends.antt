@@ -11,7 +11,8 @@ use borrow.Author.Tests.{ltb-true, ltb-false, eqb-true, eqb-false}
 use Rattle.rules.specs.Basics.{Run, whole}
 use Rattle.rules.specs.Groups.{TextUnit}
 use Rattle.rules.specs.Breaks.{Gap, gap, least, width}
-use Rattle.rules.specs.Adjustment.{Amounts, amounts, amountsOf, share, adjusted, plus, nothing, totals, natural, kindOf, Line, lineOf}
+use Rattle.rules.specs.Adjustment.{Amounts, amounts, amountsOf, share, adjusted, plus, nothing, totals, natural}
+use Rattle.rules.specs.Adjustment.{kindOf, Line, lineOf}
 use Rattle.rules.specs.Meanings.{GapAt, gap-here, gap-later, WithinLimits, FirstStageFull}
 use Rattle.rules.proofs.Facts.{tested}
 use Rattle.rules.proofs.Widths.{natural-smallest}
@@ -34,7 +35,8 @@ pub record Taken (m x : ℕ) (final : Bool) (l : Run TextUnit) (e : Amounts) (c 
 abbrev gapsOf : Run TextUnit → Gap
 gapsOf l = totals (l .first) (l .rest)
 
-pub taken : (m x : ℕ) (final : Bool) (l : Run TextUnit) → x + width l ≤ m → Taken m x final l (amountsOf m x final l) (gapsOf l)
+pub taken : (m x : ℕ) (final : Bool) (l : Run TextUnit) → x + width l ≤ m →
+    Taken m x final l (amountsOf m x final l) (gapsOf l)
 unfolding amountsOf amounts
 taken m x final l h =
     let n = natural-smallest (l .first) (l .rest) in
@@ -54,7 +56,8 @@ spread e c = e .stretch₂ * c .stretch₂ / c .stretch₂
 
 -- the end of a line that fits
 end-law : (m x : ℕ) (final : Bool) (l : Run TextUnit) → x + width l ≤ m →
-    lineOf m x final l .end + (natural x l - m) ≡ natural x l + amountsOf m x final l .stretch₁ + spread (amountsOf m x final l) (gapsOf l)
+    lineOf m x final l .end + (natural x l - m) ≡ natural x l + amountsOf m x final l .stretch₁ + spread
+    (amountsOf m x final l) (gapsOf l)
 unfolding lineOf
 end-law m x final l h =
     let c = gapsOf l in
@@ -62,7 +65,8 @@ end-law m x final l h =
     let t = taken m x final l h in
     omega (
       arith,
-      ending-sum e c c (t .shrink₁) (t .shrink₂) nothing x (l .first) (l .rest) (omega arith) (omega arith) (omega arith) (omega arith),
+      ending-sum e c c (t .shrink₁) (t .shrink₂) nothing x (l .first) (l .rest) (omega arith) (omega arith)
+          (omega arith) (omega arith),
       shared-out (e .shrink₁) (c .shrink₁) (t .shrink₁),
       shared-out (e .shrink₂) (c .shrink₂) (t .shrink₂),
       shared-out (e .stretch₁) (c .stretch₁) (t .stretch₁),
@@ -105,7 +109,8 @@ ends-within m x final l h =
     at-most false = omega arith
 
 -- a line wider than the measure ends at it, final or not
-pub wide-ends : (m x : ℕ) (final : Bool) (l : Run TextUnit) → x + width l ≤ m → m ≤ natural x l → lineOf m x final l .end ≡ m
+pub wide-ends : (m x : ℕ) (final : Bool) (l : Run TextUnit) → x + width l ≤ m → m ≤ natural x l →
+    lineOf m x final l .end ≡ m
 wide-ends m x final l h n =
     let t = taken m x final l h in
     let z : narrow m x final l ≡ 0 = none final in
@@ -127,7 +132,8 @@ two-one : _≡_ {A = ℕ} 2 1 → ⊥
 two-one e = omega arith
 
 -- a line of kind 1, flush, ends at the measure
-pub flush-ends : (m x : ℕ) (final : Bool) (l : Run TextUnit) → x + width l ≤ m → lineOf m x final l .kind ≡ 1 → lineOf m x final l .end ≡ m
+pub flush-ends : (m x : ℕ) (final : Bool) (l : Run TextUnit) → x + width l ≤ m → lineOf m x final l .kind ≡ 1 →
+    lineOf m x final l .end ≡ m
 unfolding lineOf kindOf
 flush-ends m x true l h k = omega arith
 flush-ends m x false l h k =
@@ -156,8 +162,18 @@ short-ends m x false l h k =
       | inl p ↦
           elim (tested (eqb (gapsOf l .stretch₂) 0)) [
             | inl q ↦
-                let z : gapsOf l .stretch₂ ≡ 0 = eqb-true _ _ q in
-                (omega (arith, end-law m x false l h, spread-none e (gapsOf l) z, t .under, t .over, ltb-true 0 (e .stretch₂) p), z)
+                let z : gapsOf l .stretch₂ ≡ 0 = eqb-true _ _ q in (
+                  omega (
+                    arith,
+                    end-law m x false l h,
+                    spread-none e (gapsOf l) z,
+                    t .under,
+                    t .over,
+                    ltb-true 0
+                        (e .stretch₂) p,
+                  ),
+                  z,
+                )
             | inr q ↦ absurd (two-one (sym (rw (p, q) at k)))
           ]
       | inr p ↦ absurd (two-one (sym (rw p at k)))
@@ -169,12 +185,14 @@ no-weight : (e c s g : ℕ) → g ≡ 0 → share e c s (s + g) ≡ 0
 no-weight e c s g z = rw (z, add-zero, sub-self)
 
 -- the gaps before one, and the gap, are no more than all
-gap-shrink : {u : TextUnit} {us : List TextUnit} {s g : Gap} → GapAt u us s g → s .shrink₁ + g .shrink₁ ≤ totals u us .shrink₁
+gap-shrink : {u : TextUnit} {us : List TextUnit} {s g : Gap} → GapAt u us s g →
+    s .shrink₁ + g .shrink₁ ≤ totals u us .shrink₁
 unfolding totals
 gap-shrink gap-here = omega arith
 gap-shrink (gap-later h) = omega (arith, gap-shrink h)
 
-gap-stretch : {u : TextUnit} {us : List TextUnit} {s g : Gap} → GapAt u us s g → s .stretch₁ + g .stretch₁ ≤ totals u us .stretch₁
+gap-stretch : {u : TextUnit} {us : List TextUnit} {s g : Gap} → GapAt u us s g →
+    s .stretch₁ + g .stretch₁ ≤ totals u us .stretch₁
 unfolding totals
 gap-stretch gap-here = omega arith
 gap-stretch (gap-later h) = omega (arith, gap-stretch h)
@@ -191,7 +209,8 @@ share-limit e c s g h = omega (arith, share-cap e c s g h)
 share-of-none : (e c s t : ℕ) → e ≡ 0 → share e c s t ≡ 0
 share-of-none e c s t z = rw (z, zero-mul, zero-mul, sub-self)
 
-pub within-limits : (m x : ℕ) (final : Bool) (l : Run TextUnit) → x + width l ≤ m → (s g : Gap) → GapAt (l .first) (l .rest) s g →
+pub within-limits : (m x : ℕ) (final : Bool) (l : Run TextUnit) → x + width l ≤ m → (s g : Gap) →
+    GapAt (l .first) (l .rest) s g →
     WithinLimits (amountsOf m x final l) (gapsOf l) s g
 within-limits m x final l h s g at =
     let c = gapsOf l in
@@ -206,14 +225,18 @@ within-limits m x final l h s g at =
       stretch₁ = d;
       stretch₂ = λ z. no-weight (e .stretch₂) (c .stretch₂) (s .stretch₂) (g .stretch₂) z;
       low = not-below (g .space) _ _ _ _ _ _ a b;
-      high = λ z. not-above (g .space) _ _ _ _ _ d (share-of-none (e .stretch₂) (c .stretch₂) (s .stretch₂) (s .stretch₂ + g .stretch₂) z);
+      high =
+          λ z. not-above (g .space) _ _ _ _ _ d
+          (share-of-none (e .stretch₂) (c .stretch₂) (s .stretch₂) (s .stretch₂ + g .stretch₂) z);
     }
 
-pub first-stage-full : (m x : ℕ) (final : Bool) (l : Run TextUnit) → x + width l ≤ m → (s g : Gap) → GapAt (l .first) (l .rest) s g →
+pub first-stage-full : (m x : ℕ) (final : Bool) (l : Run TextUnit) → x + width l ≤ m → (s g : Gap) →
+    GapAt (l .first) (l .rest) s g →
     FirstStageFull (amountsOf m x final l) (gapsOf l) s g
 first-stage-full m x final l h s g at =
     let t = taken m x final l h in
     record {
       shrink = λ p. rw (t .full-shrink p) (full-share (gapsOf l .shrink₁) (s .shrink₁) (g .shrink₁) (gap-shrink at));
-      stretch = λ p. rw (t .full-stretch p) (full-share (gapsOf l .stretch₁) (s .stretch₁) (g .stretch₁) (gap-stretch at));
+      stretch =
+          λ p. rw (t .full-stretch p) (full-share (gapsOf l .stretch₁) (s .stretch₁) (g .stretch₁) (gap-stretch at));
     }

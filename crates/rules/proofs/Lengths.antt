@@ -25,7 +25,8 @@ unfolding baseOffsets
 length-baseOffsets u = length-offsets _ _ _ _ 0 0 (whole u)
 
 -- an x for each record
-pub length-placed : (e : Amounts) (c s : Gap) (x : ℕ) (u : TextUnit) (us : List TextUnit) → length (placed e c s x u us) ≡ counts (u ∷ us)
+pub length-placed : (e : Amounts) (c s : Gap) (x : ℕ) (u : TextUnit) (us : List TextUnit) →
+    length (placed e c s x u us) ≡ counts (u ∷ us)
 unfolding placed counts
 length-placed e c s x u [] = omega (arith, length-map (baseOffsets u) (λ o. x + o), length-baseOffsets u)
 length-placed e c s x u (v ∷ us) =
@@ -47,12 +48,20 @@ unfolding placesOf
 length-placesOf i [] = refl
 length-placesOf i (x ∷ xs) = omega (arith, length-placesOf i xs)
 
-pub length-placeWords : (m x i : ℕ) (ls : List (Run TextUnit)) → length (placeWords i (linesOf m x ls)) ≡ 2 * counts (joined ls)
+pub length-placeWords : (m x i : ℕ) (ls : List (Run TextUnit)) →
+    length (placeWords i (linesOf m x ls)) ≡ 2 * counts (joined ls)
 unfolding placeWords linesOf joined counts
 length-placeWords m x i [] = refl
 length-placeWords m x i (l ∷ ls) =
     length-append (placesOf i (lineOf m x (isEmpty ls) l .xs)) _
-    ∙ omega (arith, length-placesOf i (lineOf m x (isEmpty ls) l .xs), length-xs m x (isEmpty ls) l, length-placeWords m 0 (suc i) ls, counts-append (whole l) (joined ls))
+    ∙ omega (
+      arith,
+      length-placesOf i (lineOf m x (isEmpty ls) l .xs),
+      length-xs m x (isEmpty ls) l,
+      length-placeWords
+          m 0 (suc i) ls,
+      counts-append (whole l) (joined ls),
+    )
 
 pub length-lineWords : (f : ℕ) (ls : List Line) → length (lineWords f ls) ≡ 3 * length ls
 unfolding lineWords
@@ -83,7 +92,8 @@ module _ (m x : ℕ) (rs : List Rec) where
   pub composed-places : length (placeWords 0 (compose m x (units rs))) ≡ 2 * length rs
   unfolding compose
   composed-places =
-      length-placeWords m x 0 _ ∙ ap (λ us. 2 * counts us) (breaking-choice m x (units rs) .joins-up) ∙ ap (λ n. 2 * n) (counts-units rs)
+      length-placeWords m x 0 _ ∙ ap (λ us. 2 * counts us) (breaking-choice m x (units rs) .joins-up)
+      ∙ ap (λ n. 2 * n) (counts-units rs)
 
   pub composed-lines : length (lineWords 0 (compose m x (units rs))) ≡ 3 * length (compose m x (units rs))
   composed-lines = length-lineWords 0 _

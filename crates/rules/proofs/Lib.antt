@@ -1,4 +1,5 @@
--- Laws of the rules' definitions and of the leaf functions. `Claims` states what is proved of the rules, in reading order.
+-- Laws of the rules' definitions and of the leaf functions. `Claims` states what is proved of the rules, in reading
+-- order.
 pub mod Facts
 pub mod Cases
 pub mod Cuts

@@ -11,10 +11,13 @@ use lib.Dec.{leb, ltb, eqb}
 use lib.ListN.{length, drop}
 use borrow.Author.Tests.{leb-true, ltb-true, eqb-true}
 use Rattle.rules.specs.Basics.{Run, whole, alone, then, tie, cut, within, isIn}
-use Rattle.rules.specs.Records.{Rec, codeOk, classOk, sizeOk, AdvanceKind, half-size, to-size, to-twice, full-size, advanceKind, advanceFits, advanceOk, groupOk, recOk, badRecord}
-use Rattle.rules.specs.Groups.{TextUnit, sameGroup, badGroup, groupFault, units, count, rubyTotal, groupAdvance, Side}
+use Rattle.rules.specs.Records.{Rec, codeOk, classOk, sizeOk, AdvanceKind, half-size, to-size, to-twice}
+use Rattle.rules.specs.Records.{full-size, advanceKind, advanceFits, advanceOk, groupOk, recOk, badRecord}
+use Rattle.rules.specs.Groups.{TextUnit, sameGroup, badGroup, groupFault, units, count, rubyTotal, groupAdvance}
+use Rattle.rules.specs.Groups.{Side}
 use Rattle.rules.specs.Space.{Fraction, no-part, eighth, quarter, half, part, Space, measured}
-use Rattle.rules.specs.Breaks.{Flexibility, early, late, rigid, instead, brought, Gap, gapBy, gapOf, weight, forbidden, least}
+use Rattle.rules.specs.Breaks.{Flexibility, early, late, rigid, instead, brought, Gap, gapBy, gapOf, weight}
+use Rattle.rules.specs.Breaks.{forbidden, least}
 use Rattle.rules.proofs.Cuts.{cut-first}
 use Rattle.rules.proofs.Facts.{tested, true-false, nil-cons, some-none}
 
@@ -60,13 +63,17 @@ record-bounds r e =
     let coded = codeOk (r .code) && classOk (r .class) in
     let all₃ : coded && sizeOk (r .size) && advanced ≡ true = and-left _ grouped e in
     let all₂ : coded && sizeOk (r .size) ≡ true = and-left _ advanced all₃ in
-    let s = within-high 8 4000 (r .size) (and-right (eqb (r .size % 8) 0) _ (and-right coded (sizeOk (r .size)) all₂)) in
-    let a = advance-bound (advanceKind (r .class)) (r .size) (r .advance) (and-right (coded && sizeOk (r .size)) advanced all₃) in
+    let s =
+    within-high 8 4000 (r .size) (and-right (eqb (r .size % 8) 0) _ (and-right coded (sizeOk (r .size)) all₂)) in
+    let a =
+    advance-bound (advanceKind (r .class)) (r .size) (r .advance)
+    (and-right (coded && sizeOk (r .size)) advanced all₃) in
     let n = ruby-bound (r .class) (r .group) (r .ruby) (and-right (coded && sizeOk (r .size) && advanced) grouped e) in
     record { size = s; advance = omega arith; ruby = n }
 
 -- where answer 8 does not apply, each record keeps its rules
-pub records-ok : (i : ℕ) (rs : List Rec) → badRecord i rs ≡ none → (k : ℕ) (r : Rec) (qs : List Rec) → drop k rs ≡ r ∷ qs → recOk r ≡ true
+pub records-ok : (i : ℕ) (rs : List Rec) → badRecord i rs ≡ none → (k : ℕ) (r : Rec) (qs : List Rec) →
+    drop k rs ≡ r ∷ qs → recOk r ≡ true
 unfolding badRecord
 records-ok i [] h zero r qs e = absurd (nil-cons e)
 records-ok i [] h (suc k) r qs e = absurd (nil-cons e)
@@ -76,7 +83,8 @@ records-ok i (p ∷ rs) h k r qs e =
       | inr z ↦ let f : some i ≡ none = rw (z, badRecord) at h in absurd (some-none f)
     ]
   where
-    from : (k : ℕ) → drop k (p ∷ rs) ≡ r ∷ qs → recOk p ≡ true → ((k : ℕ) (r : Rec) (qs : List Rec) → drop k rs ≡ r ∷ qs → recOk r ≡ true) → recOk r ≡ true
+    from : (k : ℕ) → drop k (p ∷ rs) ≡ r ∷ qs → recOk p ≡ true →
+        ((k : ℕ) (r : Rec) (qs : List Rec) → drop k rs ≡ r ∷ qs → recOk r ≡ true) → recOk r ≡ true
     from zero e z f = let q : p ≡ r = cc in rw (← q) z
     from (suc k) e z f = f k r qs e
 
@@ -87,7 +95,8 @@ abbrev pub headCount : List TextUnit → ℕ
 headCount [] = 0
 headCount (u ∷ us) = count u
 
-head-tie : (p r : Rec) (rs : List Rec) → headCount (units (p ∷ r ∷ rs)) ≡ cond (sameGroup p r) (suc (headCount (units (r ∷ rs)))) 1
+head-tie : (p r : Rec) (rs : List Rec) →
+    headCount (units (p ∷ r ∷ rs)) ≡ cond (sameGroup p r) (suc (headCount (units (r ∷ rs)))) 1
 unfolding units cut
 head-tie p r rs =
     let f = cut-first sameGroup r rs in
@@ -97,7 +106,8 @@ head-tie p r rs =
     ]
 
 -- where answer 9 does not apply, the unit of a record p that is the n-th of its group has at most 16 − n more
-group-head : (i n : ℕ) (p : Rec) (rs : List Rec) → n ≤ 16 → badGroup i n p rs ≡ none → n + headCount (units (p ∷ rs)) ≤ 17
+group-head : (i n : ℕ) (p : Rec) (rs : List Rec) → n ≤ 16 → badGroup i n p rs ≡ none →
+    n + headCount (units (p ∷ rs)) ≤ 17
 unfolding badGroup
 group-head i n p [] b h = unfold units cut in omega arith
 group-head i n p (r ∷ rs) b h =
@@ -106,7 +116,8 @@ group-head i n p (r ∷ rs) b h =
       | inl e ↦
           elim (tested fine) [
             | inl d ↦
-                let k : n < 16 = ltb-true n 16 (and-right (eqb (p .size) (r .size) && eqb (p .ruby) (r .ruby)) (ltb n 16) d) in
+                let k : n < 16 =
+                ltb-true n 16 (and-right (eqb (p .size) (r .size) && eqb (p .ruby) (r .ruby)) (ltb n 16) d) in
                 let g = group-head (suc i) (suc n) r rs k (rw (e, d, badGroup) at h) in
                 rw (head-tie, e) (omega arith)
             | inr d ↦ let f : some i ≡ none = rw (e, d, badGroup) at h in absurd (some-none f)
@@ -119,7 +130,8 @@ unfolding units cut
 none-left zero = omega arith
 none-left (suc k) = omega arith
 
-group-each : (i n : ℕ) (p : Rec) (rs : List Rec) → 1 ≤ n → n ≤ 16 → badGroup i n p rs ≡ none → (k : ℕ) → headCount (units (drop k (p ∷ rs))) ≤ 16
+group-each : (i n : ℕ) (p : Rec) (rs : List Rec) → 1 ≤ n → n ≤ 16 → badGroup i n p rs ≡ none → (k : ℕ) →
+    headCount (units (drop k (p ∷ rs))) ≤ 16
 unfolding badGroup
 group-each i n p rs a b h zero = omega (arith, group-head i n p rs b h)
 group-each i n p [] a b h (suc k) = none-left k
@@ -129,7 +141,8 @@ group-each i n p (r ∷ rs) a b h (suc k) =
       | inl e ↦
           elim (tested fine) [
             | inl d ↦
-                let j : n < 16 = ltb-true n 16 (and-right (eqb (p .size) (r .size) && eqb (p .ruby) (r .ruby)) (ltb n 16) d) in
+                let j : n < 16 =
+                ltb-true n 16 (and-right (eqb (p .size) (r .size) && eqb (p .ruby) (r .ruby)) (ltb n 16) d) in
                 group-each (suc i) (suc n) r rs (omega arith) j (rw (e, d, badGroup) at h) k
             | inr d ↦ let f : some i ≡ none = rw (e, d, badGroup) at h in absurd (some-none f)
           ]

@@ -2,7 +2,8 @@
 use mathlib.Core.Path.{_≡_, refl, ap, sym, _∙_}
 use Prim.Native.Nat.{ℕ, zero, suc, _+_, _*_, _-_, _/_, _≤_, _<_}
 use native.Mathlib.Omega.{arith}
-use native.Mathlib.Nat.{le-refl, le-trans, div-zero, zero-div, div-mul-le-self, le-div-iff-mul-le, add-mul-div-right, mul-div-left, mul-le-mul-left, mul-add, mul-comm, mul-zero}
+use native.Mathlib.Nat.{le-refl, le-trans, div-zero, zero-div, div-mul-le-self, le-div-iff-mul-le, add-mul-div-right}
+use native.Mathlib.Nat.{mul-div-left, mul-le-mul-left, mul-add, mul-comm, mul-zero}
 use mathlib.Core.List.{List, [], _∷_}
 use Rattle.rules.specs.Groups.{TextUnit, advance}
 use Rattle.rules.specs.Breaks.{Gap, gap}
@@ -69,7 +70,8 @@ module _ (e : Amounts) (c t : Gap) (p : e .shrink₁ ≤ c .shrink₁) (q : e .s
       let g = gap u v in
       omega (
         arith,
-        ending-sum (plus s g) (x + advance u + adjusted e c s g) v us (omega arith) (omega arith) (omega arith) (omega arith),
+        ending-sum (plus s g) (x + advance u + adjusted e c s g) v us (omega arith) (omega arith) (omega arith)
+            (omega arith),
         share-up (e .shrink₁) (c .shrink₁) (s .shrink₁) (g .shrink₁),
         share-cap (e .shrink₁) (c .shrink₁) (s .shrink₁) (g .shrink₁) p,
         share-up (e .shrink₂) (c .shrink₂) (s .shrink₂) (g .shrink₂),

@@ -8,7 +8,9 @@ use mathlib.Core.List.{List, [], _∷_, _++_}
 use Rattle.rules.specs.Basics.{Run, whole, then, joined}
 use Rattle.rules.specs.Groups.{TextUnit}
 use Rattle.rules.specs.Breaks.{bound, width}
-use Rattle.rules.specs.Meanings.{lastOf, lastIn, Apart, apart-none, apart-one, apart-more, Choice, Fits, fits-none, fits-more, EndsWell, at-end, at-break, Longest, longest-none, longest-more}
+use Rattle.rules.specs.Meanings.{lastOf, lastIn, Apart, apart-none, apart-one, apart-more, Choice, Fits}
+use Rattle.rules.specs.Meanings.{fits-none, fits-more, EndsWell, at-end, at-break, Longest, longest-none}
+use Rattle.rules.specs.Meanings.{longest-more}
 use Rattle.rules.proofs.Facts.{nil-cons, cons-path}
 use Rattle.rules.proofs.Cuts.{last-append, apart-tail}
 
@@ -18,7 +20,8 @@ data Parted {A : Type 0} (ps qs ss rs : List A) : Type 0 where
   later : (t : Run A) → ps ≡ ss ++ whole t → rs ≡ whole t ++ qs → Parted ps qs ss rs
   sooner : (t : Run A) → ss ≡ ps ++ whole t → qs ≡ whole t ++ rs → Parted ps qs ss rs
 
-parted-more : {A : Type 0} {a b : A} {ps qs ss rs : List A} → a ≡ b → Parted ps qs ss rs → Parted (a ∷ ps) qs (b ∷ ss) rs
+parted-more : {A : Type 0} {a b : A} {ps qs ss rs : List A} → a ≡ b → Parted ps qs ss rs →
+    Parted (a ∷ ps) qs (b ∷ ss) rs
 parted-more d (same e f) = same (cons-path d e) f
 parted-more d (later t e f) = later t (cons-path d e) f
 parted-more d (sooner t e f) = sooner t (cons-path (sym d) e) f
@@ -43,7 +46,8 @@ ends-alike p at-end = at-end
 ends-alike {k = k} p (at-break {v = v} e) = at-break {l = k} {v = v} (rw (← p) e)
 
 -- no line that fits goes on past one that is the longest
-past-longest : (m x : ℕ) (l k t : Run TextUnit) (ls ks : List (Run TextUnit)) → Longest m x (k ∷ ks) → Fits m x (l ∷ ls) → Apart bound (l ∷ ls) →
+past-longest : (m x : ℕ) (l k t : Run TextUnit) (ls ks : List (Run TextUnit)) → Longest m x (k ∷ ks) →
+    Fits m x (l ∷ ls) → Apart bound (l ∷ ls) →
     whole l ≡ whole k ++ whole t → joined ks ≡ whole t ++ joined ls → ⊥
 past-longest m x l k t ls ks (longest-more h g) (fits-more f d) a e q =
     let p : l .first ≡ k .first = cc in
@@ -59,7 +63,8 @@ fits-tail (fits-more h f) = f
 longest-tail : {m x : ℕ} {l : Run TextUnit} {ls : List (Run TextUnit)} → Longest m x (l ∷ ls) → Longest m 0 ls
 longest-tail (longest-more h g) = g
 
-pub only-lines : (m x : ℕ) (ls ks : List (Run TextUnit)) → joined ls ≡ joined ks → Apart bound ls → Apart bound ks → Fits m x ls →
+pub only-lines : (m x : ℕ) (ls ks : List (Run TextUnit)) → joined ls ≡ joined ks → Apart bound ls → Apart bound ks →
+    Fits m x ls →
     Fits m x ks → Longest m x ls → Longest m x ks → ls ≡ ks
 unfolding joined
 only-lines m x [] [] e a b f g h j = refl
@@ -67,7 +72,8 @@ only-lines m x [] (k ∷ ks) e a b f g h j = absurd (nil-cons e)
 only-lines m x (l ∷ ls) [] e a b f g h j = absurd (nil-cons (sym e))
 only-lines m x (l ∷ ls) (k ∷ ks) e a b f g h j =
     from (parted (whole l) (joined ls) (whole k) (joined ks) e)
-    (λ q. only-lines m 0 ls ks q (apart-tail bound a) (apart-tail bound b) (fits-tail f) (fits-tail g) (longest-tail h) (longest-tail j))
+    (λ q. only-lines m 0 ls ks q (apart-tail bound a) (apart-tail bound b) (fits-tail f) (fits-tail g)
+    (longest-tail h) (longest-tail j))
   where
     from : Parted (whole l) (joined ls) (whole k) (joined ks) → (joined ls ≡ joined ks → ls ≡ ks) → l ∷ ls ≡ k ∷ ks
     from (same p q) r =

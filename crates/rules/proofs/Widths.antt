@@ -6,7 +6,8 @@ use mathlib.Core.List.{List, [], _∷_, _++_, append-assoc}
 use Rattle.rules.specs.Basics.{Run, whole, then}
 use Rattle.rules.specs.Groups.{TextUnit, advance}
 use Rattle.rules.specs.Space.{Fraction, no-part, eighth, quarter, half, part, Space, measured}
-use Rattle.rules.specs.Breaks.{Flexibility, early, late, rigid, instead, brought, Gap, gapBy, gapOf, gap, least, smallest, width}
+use Rattle.rules.specs.Breaks.{Flexibility, early, late, rigid, instead, brought, Gap, gapBy, gapOf, gap, least}
+use Rattle.rules.specs.Breaks.{smallest, width}
 use Rattle.rules.specs.Adjustment.{totals, unitAdvances, natural}
 use Rattle.rules.specs.Meanings.{lastOf}
 
@@ -25,7 +26,8 @@ width-then u [] v vs = refl
 width-then u (t ∷ us) v vs = omega (arith, width-then t us v vs)
 
 -- a gap gives no more than it has
-gives-by : (f : Flexibility) (p : Space) (l r w : ℕ) → gapBy f p l r w .shrink₁ + gapBy f p l r w .shrink₂ ≤ gapBy f p l r w .space
+gives-by : (f : Flexibility) (p : Space) (l r w : ℕ) →
+    gapBy f p l r w .shrink₁ + gapBy f p l r w .shrink₂ ≤ gapBy f p l r w .space
 unfolding gapBy
 gives-by early p l r w = omega arith
 gives-by late p l r w = omega arith

@@ -10,7 +10,8 @@ use Rattle.rules.specs.Records.{Rec, recAt, records, recordWords}
 use Rattle.rules.proofs.Facts.{cons-path}
 
 -- records hang on their own words alone
-rec-alike : (ws vs : List ℕ) (i j : ℕ) → ((k : ℕ) → k < 6 → getD ws (6 * i + k) 0 ≡ getD vs (6 * j + k) 0) → recAt ws i ≡ recAt vs j
+rec-alike : (ws vs : List ℕ) (i j : ℕ) → ((k : ℕ) → k < 6 → getD ws (6 * i + k) 0 ≡ getD vs (6 * j + k) 0) →
+    recAt ws i ≡ recAt vs j
 rec-alike ws vs i j h =
     λ t.
     record {
@@ -22,7 +23,8 @@ rec-alike ws vs i j h =
       ruby = h 5 (omega arith) t;
     }
 
-pub records-alike : (ws vs : List ℕ) (i j n : ℕ) → ((k : ℕ) → k < 6 * n → getD ws (6 * i + k) 0 ≡ getD vs (6 * j + k) 0) →
+pub records-alike : (ws vs : List ℕ) (i j n : ℕ) →
+    ((k : ℕ) → k < 6 * n → getD ws (6 * i + k) 0 ≡ getD vs (6 * j + k) 0) →
     records ws i n ≡ records vs j n
 unfolding records
 records-alike ws vs i j zero h = refl
@@ -42,7 +44,8 @@ records-take ws n = records-alike (take (6 * n) ws) ws 0 0 n (λ k h. getD-take 
 pub records-drop : (ws : List ℕ) (i n : ℕ) → records (drop (6 * i) ws) 0 n ≡ records ws i n
 records-drop ws i n =
     records-alike (drop (6 * i) ws) ws 0 i n
-    (λ k h. let e : 6 * i + (6 * 0 + k) ≡ 6 * i + k = omega arith in getD-drop (6 * i) ws (6 * 0 + k) 0 ∙ ap (λ j. getD ws j 0) e)
+    (λ k h. let e : 6 * i + (6 * 0 + k) ≡ 6 * i + k = omega arith in getD-drop (6 * i) ws (6 * 0 + k) 0
+    ∙ ap (λ j. getD ws j 0) e)
 
 pub take-records : (ws : List ℕ) (i n k : ℕ) → k ≤ n → take k (records ws i n) ≡ records ws i k
 unfolding records
@@ -72,7 +75,8 @@ records-split ws i (suc n) k =
     rw suc-add (ap (λ rs. recAt ws i ∷ rs) (rw e at (records-split ws (suc i) n k)))
 
 -- the records of one list of words after another
-pub records-append : (ws vs : List ℕ) (n k : ℕ) → length ws ≡ 6 * n → records (ws ++ vs) 0 (n + k) ≡ records ws 0 n ++ records vs 0 k
+pub records-append : (ws vs : List ℕ) (n k : ℕ) → length ws ≡ 6 * n →
+    records (ws ++ vs) 0 (n + k) ≡ records ws 0 n ++ records vs 0 k
 records-append ws vs n k e =
     records-split (ws ++ vs) 0 n k
     ∙ (λ t. first t ++ second t)
@@ -93,7 +97,8 @@ one-word : (ws : List ℕ) (a b : ℕ) → a + 1 ≡ b → a < length ws → dro
 one-word ws a b e h = let f : suc a ≡ b = omega arith in rw f at (drop-cons ws a 0 h)
 
 six-words : (ws : List ℕ) (a : ℕ) → a + 6 ≤ length ws →
-    drop a ws ≡ getD ws a 0 ∷ getD ws (a + 1) 0 ∷ getD ws (a + 2) 0 ∷ getD ws (a + 3) 0 ∷ getD ws (a + 4) 0 ∷ getD ws (a + 5) 0 ∷ drop (a + 6) ws
+    drop a ws ≡ getD ws a 0 ∷ getD ws (a + 1) 0 ∷ getD ws (a + 2) 0 ∷ getD ws (a + 3) 0 ∷ getD ws (a + 4) 0 ∷ getD ws
+    (a + 5) 0 ∷ drop (a + 6) ws
 six-words ws a h =
     one-word ws a (a + 1) refl (omega arith)
     ∙ ap (λ l. getD ws a 0 ∷ l)
@@ -106,7 +111,8 @@ six-words ws a h =
     (one-word ws (a + 4) (a + 5) (omega arith) (omega arith)
     ∙ ap (λ l. getD ws (a + 4) 0 ∷ l) (one-word ws (a + 5) (a + 6) (omega arith) (omega arith))))))
 
-words-from : (ws : List ℕ) (i n : ℕ) → 6 * i + 6 * n ≤ length ws → recordWords (records ws i n) ≡ take (6 * n) (drop (6 * i) ws)
+words-from : (ws : List ℕ) (i n : ℕ) → 6 * i + 6 * n ≤ length ws →
+    recordWords (records ws i n) ≡ take (6 * n) (drop (6 * i) ws)
 unfolding records recordWords
 words-from ws i zero h = refl
 words-from ws i (suc n) h =
@@ -114,7 +120,8 @@ words-from ws i (suc n) h =
     let f : 6 * i + 6 ≡ 6 * suc i = omega arith in
     rw (six-words ws (6 * i) (omega arith), e, f)
     (ap
-    (λ l. getD ws (6 * i) 0 ∷ getD ws (6 * i + 1) 0 ∷ getD ws (6 * i + 2) 0 ∷ getD ws (6 * i + 3) 0 ∷ getD ws (6 * i + 4) 0 ∷ getD ws (6 * i + 5) 0 ∷ l)
+    (λ l. getD ws (6 * i) 0 ∷ getD ws (6 * i + 1) 0 ∷ getD ws (6 * i + 2) 0 ∷ getD ws (6 * i + 3) 0 ∷ getD ws
+    (6 * i + 4) 0 ∷ getD ws (6 * i + 5) 0 ∷ l)
     (words-from ws (suc i) n (omega arith)))
 
 -- the words of the records of some words are those words

@@ -57,8 +57,8 @@ amounts over under c =
       stretch₂ = under - min under (c .stretch₁);
     }
 
--- "A line wider than the measure is shrunk to it, final or not. A non-final narrower line is stretched to it. .. The final
--- line is never stretched"
+-- "A line wider than the measure is shrunk to it, final or not. A non-final narrower line is stretched to it. .. The
+-- final line is never stretched"
 unfoldable pub amountsOf : ℕ → ℕ → Bool → Run TextUnit → Amounts
 amountsOf m x final l =
     let n = natural x l in
@@ -78,8 +78,8 @@ adjusted e c s g =
     + share (e .stretch₁) (c .stretch₁) (s .stretch₁) (s .stretch₁ + g .stretch₁)
     + share (e .stretch₂) (c .stretch₂) (s .stretch₂) (s .stretch₂ + g .stretch₂)
 
--- the x of each record, from a unit u at x on: "The x of a grouped record is its group's x plus the record's offset in the
--- base row."
+-- the x of each record, from a unit u at x on: "The x of a grouped record is its group's x plus the record's offset
+-- in the base row."
 unfoldable pub placed : Amounts → Gap → Gap → ℕ → TextUnit → List TextUnit → List ℕ
 placed e c s x u [] = map (λ o. x + o) (baseOffsets u)
 placed e c s x u (v ∷ us) =

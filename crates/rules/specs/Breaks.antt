@@ -1,5 +1,5 @@
--- Document 01, "Breaks and adjustment": forbidden breaks, what a gap gives and takes, the smallest width, answer 10, and
--- the breaking.
+-- Document 01, "Breaks and adjustment": forbidden breaks, what a gap gives and takes, the smallest width, answer 10,
+-- and the breaking.
 --
 --   break            分割, between two units; forbidden, 分割禁止, or permitted
 --   run              here: the units between neighbouring permitted breaks
@@ -16,11 +16,12 @@ use mathlib.Core.Option.{Option, none, some}
 use lib.Dec.{leb, eqb}
 use Rattle.rules.specs.Basics.{isIn, within, Run, whole, then, cut}
 use Rattle.rules.specs.Groups.{TextUnit, Side, side, advance, counts}
-use Rattle.rules.specs.Space.{Rule, rule-a, rule-b, rule-c, rule-d, rule-e, rule-f, rule-g, rule-h, rule-i, rule-j, rule-k}
+use Rattle.rules.specs.Space.{Rule, rule-a, rule-b, rule-c, rule-d, rule-e, rule-f, rule-g, rule-h, rule-i}
+use Rattle.rules.specs.Space.{rule-j, rule-k}
 use Rattle.rules.specs.Space.{Fraction, no-part, eighth, quarter, half, Space, spaced, measured, ruleOf, spaceOf}
 
--- "A break between units is forbidden when R is 2 to 7, 9, 10 or 11; when L is 1 or 12; when L and R are both 8 with equal
--- code points; when both are 27. All other breaks are permitted"
+-- "A break between units is forbidden when R is 2 to 7, 9, 10 or 11; when L is 1 or 12; when L and R are both 8 with
+-- equal code points; when both are 27. All other breaks are permitted"
 unfoldable pub forbidden : Side → Side → Bool
 forbidden l r =
     within 2 7 (r .class) || isIn (r .class) (9 ∷ 10 ∷ 11 ∷ []) || isIn (l .class) (1 ∷ 12 ∷ [])
@@ -34,8 +35,8 @@ bound u v = forbidden (side u) (side v)
 pub data Flexibility : Type 0 where
   early late rigid : Flexibility
 
--- "Shrink stage 1: non-zero gaps of f, of h, and of g with L=7 .. Shrink stage 2: gaps of i and j .. Stretch stage 1: gaps
--- of i and j"
+-- "Shrink stage 1: non-zero gaps of f, of h, and of g with L=7 .. Shrink stage 2: gaps of i and j .. Stretch stage 1:
+-- gaps of i and j"
 unfoldable pub flexibility : Rule → ℕ → Flexibility
 flexibility rule-a l = rigid
 flexibility rule-b l = rigid
@@ -110,8 +111,9 @@ width l = smallest (l .first) (l .rest)
 unfoldable pub runs : List TextUnit → List (Run TextUnit)
 runs us = cut bound us
 
--- answer 10: "first record of the first run between neighbouring permitted breaks whose smallest width, for the first run
--- with the indent, exceeds the measure". x is the indent for the first run and 0 later; i is the run's first record
+-- answer 10: "first record of the first run between neighbouring permitted breaks whose smallest width, for the first
+-- run with the indent, exceeds the measure". x is the indent for the first run and 0 later; i is the run's first
+-- record
 unfoldable pub wideRun : ℕ → ℕ → ℕ → List (Run TextUnit) → Option ℕ
 wideRun m x i [] = none
 wideRun m x i (l ∷ ls) =
@@ -123,10 +125,11 @@ noBreaking m x us = wideRun m x 0 (runs us)
 -- the lines of some runs: a line l, which starts at x, takes run after run as long as its smallest width is at most m
 unfoldable pub filled : ℕ → ℕ → Run TextUnit → List (Run TextUnit) → List (Run TextUnit)
 filled m x l [] = l ∷ []
-filled m x l (k ∷ ks) = elim (leb (x + width (then l k)) m) [ true ↦ filled m x (then l k) ks | false ↦ l ∷ filled m 0 k ks ]
+filled m x l (k ∷ ks) =
+    elim (leb (x + width (then l k)) m) [ true ↦ filled m x (then l k) ks | false ↦ l ∷ filled m 0 k ks ]
 
--- "Each line takes the longest run of units ending at a permitted break or the paragraph's end whose smallest width, indent
--- included, is at most the measure." That these lines are the longest ones is `longest` of proofs/Claims.antt
+-- "Each line takes the longest run of units ending at a permitted break or the paragraph's end whose smallest width,
+-- indent included, is at most the measure." That these lines are the longest ones is `longest` of proofs/Claims.antt
 unfoldable pub breaking : ℕ → ℕ → List (Run TextUnit) → List (Run TextUnit)
 breaking m x [] = []
 breaking m x (l ∷ ls) = filled m x l ls

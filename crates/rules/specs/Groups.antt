@@ -87,9 +87,9 @@ groupAdvance base n s = max base (rubyTotal n s)
 unfoldable pub advance : TextUnit → ℕ
 advance u = groupAdvance (baseTotal u) (u .first .ruby) (u .first .size)
 
--- "With D the difference and n the number of items in the shorter row, item k (from 0) of that row stands at its solid
--- offset plus floor(D(2k+1)/(2n)). The longer row is solid from 0. Equal rows are both solid." The difference d is taken
--- as longer less shorter, so it is 0 for the longer row
+-- "With D the difference and n the number of items in the shorter row, item k (from 0) of that row stands at its
+-- solid offset plus floor(D(2k+1)/(2n)). The longer row is solid from 0. Equal rows are both solid." The difference d
+-- is taken as longer less shorter, so it is 0 for the longer row
 unfoldable pub shift : ℕ → ℕ → ℕ → ℕ
 shift d n k = d * (2 * k + 1) / (2 * n)
 
@@ -110,8 +110,8 @@ baseOffsets u = offsets (baseTotal u) (u .first .ruby) (u .first .size) (count u
 unfoldable pub rubyOffset : ℕ → ℕ → ℕ → ℕ → ℕ
 rubyOffset base n s k = k * (s / 2) + shift (base - rubyTotal n s) n k
 
--- "Ruby place refuses with 8 if size, count (1 to 64) or k (below the count) is out of limits, or if the base advance is 0
--- or over 64,000, and then gives offset 0; otherwise its number is 0." A number and an offset
+-- "Ruby place refuses with 8 if size, count (1 to 64) or k (below the count) is out of limits, or if the base advance
+-- is 0 or over 64,000, and then gives offset 0; otherwise its number is 0." A number and an offset
 abbrev pub rubyOk : ℕ → ℕ → ℕ → ℕ → Bool
 rubyOk base n s k = sizeOk s && within 1 64 n && ltb k n && within 1 64000 base
 

@@ -4,7 +4,8 @@
 --   tied together        every two neighbours of a run pass a test
 --   kept apart           no two elements that meet between neighbouring runs pass it
 --   boundary             a place between the runs
---   choice               of permitted breaks: non-empty lines that join up to the paragraph, each boundary a permitted break
+-- choice               of permitted breaks: non-empty lines that join up to the paragraph, each boundary a permitted
+-- break
 --   fits                 every line's smallest width is within the measure, the first line's with the indent
 --   longest              no longer line that ends at a permitted break or the paragraph's end fits
 --
@@ -44,7 +45,8 @@ TiedRun t l = Tied t (l .first) (l .rest)
 pub data Apart {A : Type 0} (t : A → A → Bool) : List (Run A) → Type 0 where
   apart-none : Apart t []
   apart-one : {l : Run A} → Apart t (l ∷ [])
-  apart-more : {l k : Run A} {ls : List (Run A)} → t (lastIn l) (k .first) ≡ false → Apart t (k ∷ ls) → Apart t (l ∷ k ∷ ls)
+  apart-more : {l k : Run A} {ls : List (Run A)} → t (lastIn l) (k .first) ≡ false → Apart t (k ∷ ls) →
+      Apart t (l ∷ k ∷ ls)
 
 -- the maximal runs of tied neighbours of a list
 pub record Maximal {A : Type 0} (t : A → A → Bool) (ps : List A) (ls : List (Run A)) : Type 0 where
@@ -106,8 +108,8 @@ pub data GapAt : TextUnit → List TextUnit → Gap → Gap → Type 0 where
   gap-here : {u v : TextUnit} {us : List TextUnit} → GapAt u (v ∷ us) nothing (gap u v)
   gap-later : {u v : TextUnit} {us : List TextUnit} {s g : Gap} → GapAt v us s g → GapAt u (v ∷ us) (plus (gap u v) s) g
 
--- what the gap gets at each stage is within its capacity there, and one without weight gets nothing at stretch stage 2; so
--- it comes to no less than its least and, before that stage, to no more than what stretch stage 1 allows
+-- what the gap gets at each stage is within its capacity there, and one without weight gets nothing at stretch stage
+-- 2; so it comes to no less than its least and, before that stage, to no more than what stretch stage 1 allows
 pub record WithinLimits (e : Amounts) (c s g : Gap) : Type 0 where
   pub shrink₁ : share (e .shrink₁) (c .shrink₁) (s .shrink₁) (s .shrink₁ + g .shrink₁) ≤ g .shrink₁
   pub shrink₂ : share (e .shrink₂) (c .shrink₂) (s .shrink₂) (s .shrink₂ + g .shrink₂) ≤ g .shrink₂
@@ -119,4 +121,5 @@ pub record WithinLimits (e : Amounts) (c s g : Gap) : Type 0 where
 -- where the second stage moves, the gap has all of its capacity at the first
 pub record FirstStageFull (e : Amounts) (c s g : Gap) : Type 0 where
   pub shrink : 0 < e .shrink₂ → share (e .shrink₁) (c .shrink₁) (s .shrink₁) (s .shrink₁ + g .shrink₁) ≡ g .shrink₁
-  pub stretch : 0 < e .stretch₂ → share (e .stretch₁) (c .stretch₁) (s .stretch₁) (s .stretch₁ + g .stretch₁) ≡ g .stretch₁
+  pub stretch : 0 < e .stretch₂ →
+      share (e .stretch₁) (c .stretch₁) (s .stretch₁) (s .stretch₁ + g .stretch₁) ≡ g .stretch₁

@@ -51,8 +51,8 @@ rowOf c = placeIn c classes
 unfoldable pub sizeOk : ℕ → Bool
 sizeOk s = eqb (s % 8) 0 && within 8 4000 s
 
--- "Advance: half the size for classes 1, 2, 5, 6, 7; from 1 to the size for class 3; from 1 to twice the size for class 27;
--- the size itself for all others."
+-- "Advance: half the size for classes 1, 2, 5, 6, 7; from 1 to the size for class 3; from 1 to twice the size for
+-- class 27; the size itself for all others."
 pub data AdvanceKind : Type 0 where
   half-size to-size to-twice full-size : AdvanceKind
 

@@ -1,5 +1,5 @@
--- Document 01, "Refusal numbers, in the order they are checked": what each call answers and leaves. A call's table has a
--- row for each number that it gives, in that order; the first row that applies is the answer.
+-- Document 01, "Refusal numbers, in the order they are checked": what each call answers and leaves. A call's table
+-- has a row for each number that it gives, in that order; the first row that applies is the answer.
 --
 --   answer       a number and a place; success is 0 and the line count (set-up: 0 and P)
 --   outcome      an answer, and the words afterwards; "Every refusal leaves the whole sheet unchanged."
@@ -19,7 +19,8 @@ use Rattle.rules.specs.Records.{Rec, records, badRecord}
 use Rattle.rules.specs.Groups.{groupFault, units}
 use Rattle.rules.specs.Breaks.{noBreaking}
 use Rattle.rules.specs.Adjustment.{compose}
-use Rattle.rules.specs.Sheet.{slotWords, fresh, clinicOf, measureOf, indentOf, countOf, lineCountOf, recordsOf, limitsOk, slotLimitsOk, slotCount, lengthOk, slotAt, withSlot}
+use Rattle.rules.specs.Sheet.{slotWords, fresh, clinicOf, measureOf, indentOf, countOf, lineCountOf, recordsOf}
+use Rattle.rules.specs.Sheet.{limitsOk, slotLimitsOk, slotCount, lengthOk, slotAt, withSlot}
 
 pub record Answer : Type 0 where
   pub number : ℕ
@@ -44,7 +45,8 @@ judged m x rs =
     (orElse 10 (noBreaking m x (units rs))
     (says 0 (length (compose m x (units rs))))))
 
--- 4: "the slot's measure or indent is out of limits, its count is over 256, or its stored records fall under 8, 9 or 10"
+-- 4: "the slot's measure or indent is out of limits, its count is over 256, or its stored records fall under 8, 9 or
+-- 10"
 unfoldable pub sound : List ℕ → Bool
 sound s =
     limitsOk (measureOf s) (indentOf s) && leb (countOf s) 256
@@ -67,12 +69,15 @@ slotRows s place deleted inserted =
     ∷ (ltb 256 (countOf s - deleted + length inserted / 6), says 7 0)
     ∷ []
 
--- an edit of slot s by its own clinic: the answer, and the slot's words. "An accepted edit keeps clinic, measure and indent
--- and writes every other word of its slot"
+-- an edit of slot s by its own clinic: the answer, and the slot's words. "An accepted edit keeps clinic, measure and
+-- indent and writes every other word of its slot"
 unfoldable pub editSlot : List ℕ → ℕ → ℕ → List ℕ → Outcome
 editSlot s place deleted inserted =
-    let a = firstOf (slotRows s place deleted inserted) (judged (measureOf s) (indentOf s) (edited s place deleted inserted)) in
-    (a, cond (eqb (a .number) 0) (slotWords (clinicOf s) (measureOf s) (indentOf s) (edited s place deleted inserted)) s)
+    let m = measureOf s in
+    let x = indentOf s in
+    let rs = edited s place deleted inserted in
+    let a = firstOf (slotRows s place deleted inserted) (judged m x rs) in
+    (a, cond (eqb (a .number) 0) (slotWords (clinicOf s) m x rs) s)
 
 -- the rows 1 to 3, of which each call on a slot begins; 3 looks at no word of the slot but its clinic
 unfoldable pub callRows : List ℕ → ℕ → ℕ → List (Bool × Answer)
@@ -129,7 +134,10 @@ freshSlots k clinics measures indents (suc n) =
 unfoldable pub setUpAnswer : ℕ → List ℕ → List ℕ → List ℕ → Answer
 setUpAnswer n clinics measures indents =
     let p = n / 2824 in
-    cond (not (lengthOk n) || not (eqb (length clinics) p) || not (eqb (length measures) p) || not (eqb (length indents) p)) (says 1 0)
+    cond
+    (not (lengthOk n) || not (eqb (length clinics) p) || not (eqb (length measures) p)
+    || not (eqb (length indents) p))
+    (says 1 0)
     (orElse 11 (badSlot 0 clinics measures indents p) (says 0 p))
 
 unfoldable pub setUp : List ℕ → List ℕ → List ℕ → List ℕ → Outcome

@@ -40,8 +40,8 @@ const FULL_SIZE: u8 = 3;
 // What the table has for a number that is no class: row 18, and the kind of most classes.
 const NO_CLASS: u8 = 4 * 18 + FULL_SIZE;
 
-// For each class number four times its row, and its kind of advance. A table of bytes, since the compiler lays a constant
-// table down anew at each use.
+// For each class number four times its row, and its kind of advance. A table of bytes, since the compiler lays a
+// constant table down anew at each use.
 const CLASSES: [u8; 28] = [
     NO_CLASS,
     // 1 to 16

@@ -16,7 +16,8 @@ use Rattle.slot.specs.Slot.{spliced, Replaceable}
 use Rattle.slot.proofs.Spliced.{spliced-records, length-spliced}
 use Rattle.rules.proofs.Zeros.{length-zeros, drop-zeros}
 
-module _ (s : List ℕ) (p d : ℕ) (ins : List ℕ) (len : length s ≡ 2824) (few : countOf s ≤ 256) (within : p + d ≤ countOf s)
+module _ (s : List ℕ) (p d : ℕ) (ins : List ℕ) (len : length s ≡ 2824) (few : countOf s ≤ 256)
+    (within : p + d ≤ countOf s)
     (whole : length ins % 6 ≡ 0)
     (room : (countOf s - d) * 6 + length ins ≤ 1536) where
   old : List ℕ
@@ -45,7 +46,8 @@ module _ (s : List ℕ) (p d : ℕ) (ins : List ℕ) (len : length s ≡ 2824) (
 
   length-words : length list-words ≡ total
   unfolding list-words old total k
-  length-words = length-spliced (drop 8 s) ins (countOf s) p d (length ins / 6) old-room within (omega arith) ∙ omega arith
+  length-words =
+      length-spliced (drop 8 s) ins (countOf s) p d (length ins / 6) old-room within (omega arith) ∙ omega arith
 
   records-words : paragraph list-words ≡ edited s p d ins
   unfolding list-words old total k
@@ -53,8 +55,10 @@ module _ (s : List ℕ) (p d : ℕ) (ins : List ℕ) (len : length s ≡ 2824) (
       ap (λ n. records (spliced (take (6 * countOf s) (drop 8 s)) (6 * p) (6 * (p + d)) ins) 0 n) sized
       ∙ spliced-records (drop 8 s) ins (countOf s) p d (length ins / 6) old-room within (omega arith)
     where
-      sized : size (spliced (take (6 * countOf s) (drop 8 s)) (6 * p) (6 * (p + d)) ins) ≡ p + (length ins / 6 + (countOf s - (p + d)))
-      sized = omega (arith, length-spliced (drop 8 s) ins (countOf s) p d (length ins / 6) old-room within (omega arith))
+      sized : size (spliced (take (6 * countOf s) (drop 8 s)) (6 * p) (6 * (p + d)) ins) ≡ p +
+          (length ins / 6 + (countOf s - (p + d)))
+      sized =
+          omega (arith, length-spliced (drop 8 s) ins (countOf s) p d (length ins / 6) old-room within (omega arith))
 
   -- the list that the program makes: those words, and zeros
   pub record NewList (list : List ℕ) : Type 0 where
@@ -71,7 +75,8 @@ module _ (s : List ℕ) (p d : ℕ) (ins : List ℕ) (len : length s ≡ 2824) (
       let a : 8 + countOf s * 6 - 8 ≡ 6 * countOf s = omega arith in
       let b : p * 6 ≡ 6 * p = omega arith in
       let c : (p + d) * 6 ≡ 6 * (p + d) = omega arith in
-      let l : length (take (6 * countOf s) (drop 8 s)) ≡ 6 * countOf s = length-take-le (6 * countOf s) (drop 8 s) old-room in
+      let l : length (take (6 * countOf s) (drop 8 s)) ≡ 6 * countOf s =
+      length-take-le (6 * countOf s) (drop 8 s) old-room in
       let n : 6 * p + length ins + (length (take (6 * countOf s) (drop 8 s)) - 6 * (p + d)) ≡ total = omega arith in
       let f : list ≡ list-words ++ drop total (zeros 1536) = rw (a, b, c, n) at e in
       let z : drop total (zeros 1536) ≡ zeros (1536 - total) = drop-zeros 1536 total room in
@@ -88,5 +93,7 @@ module _ (s : List ℕ) (p d : ℕ) (ins : List ℕ) (len : length s ≡ 2824) (
               whole = omega arith;
               rest = ap (λ w. drop total w) f ∙ drop-at list-words (drop total (zeros 1536)) total length-words ∙ z;
             };
-        records = ap (λ w. paragraph (take total w)) f ∙ ap (λ w. paragraph w) (take-at list-words (drop total (zeros 1536)) total length-words) ∙ records-words;
+        records =
+            ap (λ w. paragraph (take total w)) f
+            ∙ ap (λ w. paragraph w) (take-at list-words (drop total (zeros 1536)) total length-words) ∙ records-words;
       }

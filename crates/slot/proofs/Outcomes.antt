@@ -20,7 +20,8 @@ module _ (s : List ℕ) (place deleted : ℕ) (ins : List ℕ) where
   unfolding editSlot slotRows
   refuses-5 a h = rw (a, lt-ltb (countOf s) place h)
 
-  pub refuses-5-end : sound s ≡ true → place ≤ countOf s → countOf s < place + deleted → editSlot s place deleted ins ≡ (says 5 (countOf s), s)
+  pub refuses-5-end : sound s ≡ true → place ≤ countOf s → countOf s < place + deleted →
+      editSlot s place deleted ins ≡ (says 5 (countOf s), s)
   unfolding editSlot slotRows
   refuses-5-end a h k = rw (a, le-ltb (countOf s) place h, lt-ltb (countOf s) (place + deleted) k)
 
@@ -44,7 +45,8 @@ module _ (s : List ℕ) (place deleted : ℕ) (ins : List ℕ) where
             lt-ltb 256 (countOf s - deleted + length ins / 6) h,
           )
 
-      pub replaces : countOf s - deleted + length ins / 6 ≤ 256 → editSlot s place deleted ins ≡ replaced s (edited s place deleted ins)
+      pub replaces : countOf s - deleted + length ins / 6 ≤ 256 →
+          editSlot s place deleted ins ≡ replaced s (edited s place deleted ins)
       unfolding editSlot slotRows replaced
       replaces h =
           rw (

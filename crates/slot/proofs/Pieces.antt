@@ -4,7 +4,8 @@ use mathlib.Core.List.{List, [], _∷_, _++_, append-assoc, append-nil}
 use Prim.Native.Nat.{ℕ, _+_, _-_, _*_, _≤_, _<_}
 use native.Mathlib.Omega.{arith}
 use lib.ListN.{length, take, drop, set, getD, length-append, length-drop, drop-of-length-le}
-use lib.Seq.{paste, take-append-seam, take-length, drop-append-add, drop-cons, drop-drop, length-take-le, take-all, drop-at}
+use lib.Seq.{paste, take-append-seam, take-length, drop-append-add, drop-cons, drop-drop, length-take-le, take-all}
+use lib.Seq.{drop-at}
 use Rattle.slot.specs.Slot.{headOf, spliced}
 
 -- a paste right after p
@@ -30,7 +31,8 @@ eight w h =
     (drop-cons w 6 0 (omega arith) ∙ ap (λ l. getD w 6 0 ∷ l) (drop-cons w 7 0 (omega arith))))))))
 
 -- stores into the head
-pub headed : (w : List ℕ) (n k : ℕ) → 8 ≤ length w → set (set (set (set (set w 3 n) 4 k) 5 0) 6 0) 7 0 ≡ headOf w n k ++ drop 8 w
+pub headed : (w : List ℕ) (n k : ℕ) → 8 ≤ length w →
+    set (set (set (set (set w 3 n) 4 k) 5 0) 6 0) 7 0 ≡ headOf w n k ++ drop 8 w
 headed w n k h = ap (λ l. set (set (set (set (set l 3 n) 4 k) 5 0) 6 0) 7 0) (eight w h)
 
 -- the three pastes of a splice
@@ -48,10 +50,12 @@ splices list ws ins l₁ l₂ l₃ b e hb he h₁ h₂ h₃ =
     rw (z, hA) at (h₁ ∙ paste-at [] list (take (b - 0) ws) 0 (length (take (b - 0) ws)) refl refl) in
     let s₂ : l₂ ≡ (take b ws ++ ins) ++ drop (length ins) (drop b list) =
     rw append-assoc (rw s₁ at h₂ ∙ paste-at (take b ws) (drop b list) ins b (length ins) hA refl) in
-    let hAI : length (take b ws ++ ins) ≡ b + length ins = length-append (take b ws) ins ∙ ap (λ k. k + length ins) hA in
+    let hAI : length (take b ws ++ ins) ≡ b + length ins =
+    length-append (take b ws) ins ∙ ap (λ k. k + length ins) hA in
     let s₃ : l₃ ≡ (take b ws ++ ins) ++ (drop e ws ++ drop (length ws - e) (drop (length ins) (drop b list))) =
     rw (s₂, eC) at h₃
-    ∙ paste-at (take b ws ++ ins) (drop (length ins) (drop b list)) (drop e ws) (b + length ins) (length (drop e ws)) hAI refl
+    ∙ paste-at (take b ws ++ ins) (drop (length ins) (drop b list)) (drop e ws) (b + length ins) (length (drop e ws))
+    hAI refl
     ∙ ap (λ k. (take b ws ++ ins) ++ (drop e ws ++ drop k (drop (length ins) (drop b list)))) hC in
     s₃ ∙ simp (append-assoc, drop-drop)
 
@@ -59,7 +63,8 @@ regroup : (p l q s : List ℕ) → ((p ++ l) ++ q) ++ (s ++ []) ≡ p ++ (l ++ (
 regroup p l q s = simp (append-assoc, append-nil)
 
 -- the four writes of a slot
-pub writes : (w list places lines a b c d : List ℕ) (n k : ℕ) → length w ≡ 2824 → length list ≡ 1536 → length places ≡ 512 →
+pub writes : (w list places lines a b c d : List ℕ) (n k : ℕ) → length w ≡ 2824 → length list ≡ 1536 →
+    length places ≡ 512 →
     length lines ≡ 768 →
     a ≡ headOf w n k ++ drop 8 w →
     b ≡ paste a 8 list (length list) →
@@ -73,8 +78,10 @@ writes w list places lines a b c d n k hw hl hp hn h₁ h₂ h₃ h₄ =
     let l₂ : length (p₁ ++ list) ≡ 1544 = length-append p₁ list ∙ ap (λ j. 8 + j) hl in
     let s₃ : c ≡ ((p₁ ++ list) ++ places) ++ drop 512 (drop 1536 (drop 8 w)) =
     rw append-assoc (rw (s₂, hp) at h₃ ∙ paste-at (p₁ ++ list) (drop 1536 (drop 8 w)) places 1544 512 l₂ hp) in
-    let l₃ : length ((p₁ ++ list) ++ places) ≡ 2056 = length-append (p₁ ++ list) places ∙ ap (λ j. j + length places) l₂ ∙ ap (λ j. 1544 + j) hp in
+    let l₃ : length ((p₁ ++ list) ++ places) ≡ 2056 =
+    length-append (p₁ ++ list) places ∙ ap (λ j. j + length places) l₂ ∙ ap (λ j. 1544 + j) hp in
     let s₄ : d ≡ ((p₁ ++ list) ++ places) ++ (lines ++ drop 768 (drop 512 (drop 1536 (drop 8 w)))) =
     rw (s₃, hn) at h₄ ∙ paste-at ((p₁ ++ list) ++ places) (drop 512 (drop 1536 (drop 8 w))) lines 2056 768 l₃ hn in
-    let z : drop 768 (drop 512 (drop 1536 (drop 8 w))) ≡ [] = let h : length w ≤ 8 + 1536 + 512 + 768 = omega arith in simp drop-drop (drop-of-length-le w h) in
+    let z : drop 768 (drop 512 (drop 1536 (drop 8 w))) ≡ [] =
+    let h : length w ≤ 8 + 1536 + 512 + 768 = omega arith in simp drop-drop (drop-of-length-le w h) in
     s₄ ∙ ap (λ t. ((p₁ ++ list) ++ places) ++ (lines ++ t)) z ∙ regroup p₁ list places lines

@@ -52,7 +52,8 @@ by-lines none none none n p e = sym (ap (λ a. a .place) e)
 
 line-count : (m x : ℕ) (rs : List Rec) (p : ℕ) → judged m x rs ≡ says 0 p → p ≡ length (compose m x (units rs))
 unfolding judged
-line-count m x rs p e = by-lines (badRecord 0 rs) (groupFault rs) (noBreaking m x (units rs)) (length (compose m x (units rs))) p e
+line-count m x rs p e =
+    by-lines (badRecord 0 rs) (groupFault rs) (noBreaking m x (units rs)) (length (compose m x (units rs))) p e
 
 regrouped : (p l q s : List ℕ) → p ++ (l ++ (q ++ s)) ≡ p ++ l ++ q ++ s
 regrouped p l q s = simp append-assoc
@@ -74,8 +75,11 @@ module _ (s list : List ℕ) (total : ℕ) (h : Replaceable s list total) where
 
   list-padded : list ≡ padded 1536 (recordWords (paragraph ws))
   list-padded =
-      let e : recordWords (paragraph ws) ≡ ws = words-records ws (size ws) (omega (arith, six, length-ws)) ∙ take-all (6 * size ws) ws (omega (arith, six, length-ws)) in
-      sym (take-append-drop total list) ∙ ap (λ l. ws ++ l) (h .rest ∙ ap (λ n. zeros (1536 - n)) (sym length-ws)) ∙ ap (λ l. padded 1536 l) (sym e)
+      let e : recordWords (paragraph ws) ≡ ws =
+      words-records ws (size ws) (omega (arith, six, length-ws))
+      ∙ take-all (6 * size ws) ws (omega (arith, six, length-ws)) in
+      sym (take-append-drop total list) ∙ ap (λ l. ws ++ l) (h .rest ∙ ap (λ n. zeros (1536 - n)) (sym length-ws))
+      ∙ ap (λ l. padded 1536 l) (sym e)
 
   pub replaced-few : size ws ≤ 256
   replaced-few = omega (arith, six, h .room)
@@ -95,10 +99,12 @@ module _ (s list : List ℕ) (total : ℕ) (h : Replaceable s list total) where
       let few : length ls ≤ length rs = composed-few m x rs in
       let p : places ≡ padded 512 (placeWords 0 ls) =
       c .written z .place-words
-      ∙ padded-paste 512 (2 * size ws) (placeWords 0 ls) (composed-places m x rs ∙ ap (λ j. 2 * j) n) (omega (arith, replaced-few)) in
+      ∙ padded-paste 512 (2 * size ws) (placeWords 0 ls) (composed-places m x rs
+      ∙ ap (λ j. 2 * j) n) (omega (arith, replaced-few)) in
       let l : lines ≡ padded 768 (lineWords 0 ls) =
       c .written z .line-words
-      ∙ padded-paste 768 (3 * place) (lineWords 0 ls) (composed-lines m x rs ∙ ap (λ j. 3 * j) (sym k)) (omega (arith, replaced-few, few, n, k)) in
+      ∙ padded-paste 768 (3 * place) (lineWords 0 ls) (composed-lines m x rs
+      ∙ ap (λ j. 3 * j) (sym k)) (omega (arith, replaced-few, few, n, k)) in
       let t : total / 6 ≡ length rs = omega (arith, six, n) in
       let e : eqb (judged m x rs .number) 0 ≡ true = rw (c .answer, z) in
       rw (e, c .answer) (ap (λ o. (says number place, o)) (w ∙ assembled (clinicOf s) m x t k list-padded p l))

@@ -19,7 +19,8 @@ use Rattle.compose.specs.Composed.{Fitting}
 
 -- measure and indent within limits
 pub limits-measure : (m x : ℕ) → limitsOk m x ≡ true → m ≤ 1000000
-limits-measure m x e = leb-true m 1000000 (and-right (leb 8 m) (leb m 1000000) (and-left (within 8 1000000 m) (ltb x m) e))
+limits-measure m x e =
+    leb-true m 1000000 (and-right (leb 8 m) (leb m 1000000) (and-left (within 8 1000000 m) (ltb x m) e))
 
 pub limits-indent : (m x : ℕ) → limitsOk m x ≡ true → x < m
 limits-indent m x e = ltb-true x m (and-right (within 8 1000000 m) (ltb x m) e)
@@ -33,7 +34,12 @@ front-paragraph w n h = ap (λ k. records (take (6 * n) w) 0 k) (front-size w n 
 
 pub fitting : (ws : List ℕ) (m x : ℕ) → size ws ≤ 256 → limitsOk m x ≡ true → Fitting ws m x
 fitting ws m x h e =
-    record { few = h; measure = limits-measure m x e; indent = omega (arith, limits-measure m x e, limits-indent m x e) }
+    record {
+      few = h;
+      measure = limits-measure m x e;
+      indent = omega
+          (arith, limits-measure m x e, limits-indent m x e);
+    }
 
 -- the part of a slot that its records are
 module _ (s : List ℕ) (len : length s ≡ 2824) (few : countOf s ≤ 256) where
@@ -67,9 +73,12 @@ module _ (s : List ℕ) where
   -- what a sound slot has
   pub sound-limits : sound s ≡ true → limitsOk (measureOf s) (indentOf s) ≡ true
   unfolding sound
-  sound-limits e = and-left (limitsOk (measureOf s) (indentOf s)) (leb (countOf s) 256) (and-left (limitsOk (measureOf s) (indentOf s) && leb (countOf s) 256) _ e)
+  sound-limits e =
+      and-left (limitsOk (measureOf s) (indentOf s)) (leb (countOf s) 256)
+      (and-left (limitsOk (measureOf s) (indentOf s) && leb (countOf s) 256) _ e)
 
   pub sound-count : sound s ≡ true → countOf s ≤ 256
   unfolding sound
   sound-count e =
-      leb-true (countOf s) 256 (and-right (limitsOk (measureOf s) (indentOf s)) (leb (countOf s) 256) (and-left (limitsOk (measureOf s) (indentOf s) && leb (countOf s) 256) _ e))
+      leb-true (countOf s) 256 (and-right (limitsOk (measureOf s) (indentOf s)) (leb (countOf s) 256)
+      (and-left (limitsOk (measureOf s) (indentOf s) && leb (countOf s) 256) _ e))

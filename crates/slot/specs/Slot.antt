@@ -23,12 +23,18 @@ headOf s n lines = head (clinicOf s) (measureOf s) (indentOf s) n lines
 abbrev pub spliced : List ℕ → ℕ → ℕ → List ℕ → List ℕ
 spliced ws before after inserted = take before ws ++ (inserted ++ drop after ws)
 
+-- the same at the front of a list, of which the rest stays
+abbrev pub splicedInto : List ℕ → List ℕ → ℕ → ℕ → List ℕ → List ℕ
+splicedInto list ws before after inserted =
+    spliced ws before after inserted ++ drop (before + length inserted + (length ws - after)) list
+
 unfoldable pub replaced : List ℕ → List Rec → Outcome
 replaced s rs =
     let a = judged (measureOf s) (indentOf s) rs in
     (a, cond (eqb (a .number) 0) (slotWords (clinicOf s) (measureOf s) (indentOf s) rs) s)
 
--- a slot whose measure and indent are within limits, and a list of whole records, with zeros past them, to replace its own
+-- a slot whose measure and indent are within limits, and a list of whole records, with zeros past them, to replace
+-- its own
 pub record Replaceable (s list : List ℕ) (total : ℕ) : Type 0 where
   pub slot : length s ≡ 2824
   pub limits : limitsOk (measureOf s) (indentOf s) ≡ true

@@ -50,7 +50,8 @@ fn is_sound(words: &[u32]) -> bool
 // Composes the first `total` words of `list` as the slot's records and, where they are accepted, writes the slot.
 fn replace(words: &mut [u32], list: &[u32], total: usize) -> Answer
     requires { ⌜ Replaceable (now words) (now list) total ⌝ }
-    ensures { λ r. ⌜ (says (r .number) (r .place), now (words .exit)) ≡ replaced (now (words .entry)) (paragraph (take total (now (list .entry)))) ⌝ }
+    ensures { λ r. ⌜ (says (r .number) (r .place), now (words .exit)) ≡
+        replaced (now (words .entry)) (paragraph (take total (now (list .entry)))) ⌝ }
 {
     let m = words[1];
     let x = words[2];
@@ -63,11 +64,12 @@ fn replace(words: &mut [u32], list: &[u32], total: usize) -> Answer
     a
 }
 
-// One slot's edit: `deleted` records go out at `place`, and the inserted ones come in there. The new record list is held in
-// a local until every check has passed.
+// One slot's edit: `deleted` records go out at `place`, and the inserted ones come in there. The new record list is held
+// in a local until every check has passed.
 pub fn edit_slot(words: &mut [u32], place: u32, deleted: u32, inserted: &[u32]) -> Answer
     requires { ⌜ length (now words) ≡ 2824 ⌝ }
-    ensures { λ r. ⌜ (says (r .number) (r .place), now (words .exit)) ≡ editSlot (now (words .entry)) place deleted (now (inserted .entry)) ⌝ }
+    ensures { λ r. ⌜ (says (r .number) (r .place), now (words .exit)) ≡
+        editSlot (now (words .entry)) place deleted (now (inserted .entry)) ⌝ }
 {
     if !is_sound(words) {
         return refusal(4, 0);

@@ -8,12 +8,11 @@ use Rattle.compose.proofs.paragraph.check.Lts as lts
 use Rattle.compose.proofs.paragraph.judge.Reads as judge-reads
 
 -- src/paragraph.rt:77:9
-judge-requires : tie.Need-judge-requires
-judge-requires c κs = search needs
-
 -- src/paragraph.rt:70:1
 returns : tie.Need-returns
-returns c = judged-number (now (c .before .before .before .before .before .before .args .ws)) _ _ _ _ _ _ _ (c .before .judge .ensures)
+returns c =
+    judged-number (now (c .before .before .before .before .before .before .args .ws)) _ _ _ _ _ _ _
+    (c .before .judge .ensures)
 
 pub check-spec : {M : Type 1} → statement M
-check-spec = tie.close (tie.spec judge-requires returns)
+check-spec = tie.close (tie.spec (λ c κs. search needs) returns)

@@ -14,12 +14,11 @@ use Rattle.compose.proofs.paragraph.says.Reads as says-reads
 use Rattle.compose.proofs.places.place_lines.Reads as place-lines-reads
 
 -- src/paragraph.rt:90:9
-judge-requires : tie.Need-judge-requires
-judge-requires c κs = search needs
-
 -- src/paragraph.rt:92:9
 returns : tie.Need-returns
-returns c = refusing (now (c .before .before .before .before .before .before .before .args .ws)) _ _ _ _ _ _ _ _ _ (c .if1 .taken) (c .before .before .judge .ensures)
+returns c =
+    refusing (now (c .before .before .before .before .before .before .before .args .ws)) _ _ _ _ _ _ _ _ _
+    (c .if1 .taken) (c .before .before .judge .ensures)
 
 -- src/paragraph.rt:95:9
 break-lines-requires : tie.Need-break-lines-requires
@@ -31,9 +30,12 @@ break-lines-requires c κs =
 -- src/paragraph.rt:96:5
 place-lines-requires : tie.Need-place-lines-requires
 place-lines-requires c κs =
-    let s = c .before .before .before .before .before .before .before .before .before .before .before .before .before .before .before in
+    let s =
+    c .before .before .before .before .before .before .before .before .before .before .before .before .before .before .before in
     let ws = now (s .args .ws) in
-    let a = c .before .before .before .before .before .before .before .before .before .before .judge .ensures .accepted (c .before .before .before .before .before .before .before .before .if1 .left) in
+    let a =
+    c .before .before .before .before .before .before .before .before .before .before .judge .ensures .accepted
+    (c .before .before .before .before .before .before .before .before .if1 .left) in
     let b = c .before .before .before .before .before .break-lines .ensures in
     let p : length (now (s .args .places)) ≡ 512 = search needs in
     let l : length (now (s .args .lines)) ≡ 768 = search needs in
@@ -50,15 +52,18 @@ place-lines-requires c κs =
 -- src/paragraph.rt:97:5
 says-requires : tie.Need-says-requires
 says-requires c κs =
-    let s = c .before .before .before .before .before .before .before .before .before .before .before .before .before .before .before .before in
+    let s =
+    c .before .before .before .before .before .before .before .before .before .before .before .before .before .before .before .before in
     let b = c .before .before .before .before .before .before .break-lines .ensures in
     omega (arith, b .count, lines-within (now (s .args .ws)) (s .args .m) (s .args .x), s .pre .few)
 
 -- src/paragraph.rt:83:1
 returns-2 : tie.Need-returns-2
 returns-2 c =
-    let s = c .before .before .before .before .before .before .before .before .before .before .before .before .before .before .before .before .before in
-    composing (now (s .args .ws)) _ _ _ _ _ _ _ _ _ _ _ _ _ (c .before .before .before .before .before .before .before .before .before .before .before .before .judge .ensures .accepted (c .before .before .before .before .before .before .before .before .before .before .if1 .left)) (c .before .before .before .before .before .before .before .break-lines .ensures)
+    let s =
+    c .before .before .before .before .before .before .before .before .before .before .before .before .before .before .before .before .before in
+    composing (now (s .args .ws)) _ _ _ _ _ _ _ _ _ _ _ _ _
+    (c .before .before .before .before .before .before .before .before .before .before .before .before .judge .ensures .accepted (c .before .before .before .before .before .before .before .before .before .before .if1 .left)) (c .before .before .before .before .before .before .before .break-lines .ensures)
     (c .before .place-lines .ensures)
     (c .says .ensures)
 
@@ -66,7 +71,7 @@ pub compose-spec : {M : Type 1} → statement M
 compose-spec =
     tie.close
     (tie.spec
-    judge-requires
+    (λ c κs. search needs)
     returns
     break-lines-requires
     place-lines-requires

@@ -1,7 +1,8 @@
 use denote.Ref.{now}
 use native.Mathlib.Omega.{arith}
 use Rattle.compose.specs.Paragraph.{size, Checked}
-use Rattle.compose.proofs.Answers.{named, no-8, no-9, no-10, judged-8, judged-9, judged-10, judged-0, refusal, acceptance}
+use Rattle.compose.proofs.Answers.{named, no-8, no-9, no-10, judged-8, judged-9, judged-10, judged-0, refusal}
+use Rattle.compose.proofs.Answers.{acceptance}
 use borrow.Author.Needs.{needs}
 use Rattle.compose.proofs.paragraph.judge.Statement.{statement}
 use Rattle.compose.proofs.paragraph.judge.Tie as tie
@@ -14,13 +15,7 @@ use Rattle.compose.proofs.paragraph.fill_tables.Reads as fill-tables-re
 use Rattle.compose.proofs.paragraph.says.Reads as says-reads
 
 -- src/paragraph.rt:53:9
-first-bad-record-requires : tie.Need-first-bad-record-requires
-first-bad-record-requires c κs = search needs
-
 -- src/paragraph.rt:55:9
-says-requires : tie.Need-says-requires
-says-requires c κs = search needs
-
 -- src/paragraph.rt:55:9
 -- past answers 8 and 9 the paragraph is checked
 checked : (c : tie.Else2) → Checked (now (c .before .before .before .before .before .args .ws))
@@ -42,13 +37,7 @@ returns c =
     (judged-8 _ _ _ _ (named (size (now (s .args .ws))) (k .result) _ (k .ensures) (c .before .if1 .taken)))
 
 -- src/paragraph.rt:57:9
-first-group-fault-requires : tie.Need-first-group-fault-requires
-first-group-fault-requires c κs = search needs
-
 -- src/paragraph.rt:59:9
-says-requires-2 : tie.Need-says-requires-2
-says-requires-2 c κs = search needs
-
 -- src/paragraph.rt:59:9
 returns-2 : tie.Need-returns-2
 returns-2 c =
@@ -57,7 +46,8 @@ returns-2 c =
     let g = c .before .before .first-group-fault in
     let ws = now (s .args .ws) in
     refusal ws _ _ _ _ _ 9 (g .result) _ _ (c .says2 .ensures) (λ z. omega arith)
-    (judged-9 _ _ _ _ (no-8 ws (k .result) (c .before .before .before .if1 .left) (k .ensures)) (named (size ws) (g .result) _ (g .ensures) (c .before .if2 .taken)))
+    (judged-9 _ _ _ _ (no-8 ws (k .result) (c .before .before .before .if1 .left) (k .ensures))
+    (named (size ws) (g .result) _ (g .ensures) (c .before .if2 .taken)))
 
 -- src/paragraph.rt:61:5
 fill-tables-requires : tie.Need-fill-tables-requires
@@ -65,12 +55,13 @@ fill-tables-requires c κs = checked (c .before .before .before)
 
 -- src/paragraph.rt:62:9
 first-wide-run-requires : tie.Need-first-wide-run-requires
-first-wide-run-requires c κs = (checked (c .before .before .before .before .before), c .before .fill-tables .ensures .runs, c .before .before .before .before .before .before .before .before .before .before .pre .indent)
+first-wide-run-requires c κs = (
+  checked (c .before .before .before .before .before),
+  c .before .fill-tables .ensures .runs,
+  c .before .before .before .before .before .before .before .before .before .before .pre .indent,
+)
 
 -- src/paragraph.rt:64:9
-says-requires-3 : tie.Need-says-requires-3
-says-requires-3 c κs = search needs
-
 -- src/paragraph.rt:64:9
 returns-3 : tie.Need-returns-3
 returns-3 c =
@@ -82,9 +73,6 @@ returns-3 c =
     (judged-10 _ _ _ _ (h .sound) (h .grouped) (named (size ws) (k .result) _ (k .ensures) (c .before .if3 .taken)))
 
 -- src/paragraph.rt:66:5
-says-requires-4 : tie.Need-says-requires-4
-says-requires-4 c κs = search needs
-
 -- src/paragraph.rt:41:1
 returns-4 : tie.Need-returns-4
 returns-4 c =
@@ -101,15 +89,15 @@ pub judge-spec : {M : Type 1} → statement M
 judge-spec =
     tie.close
     (tie.spec
-    first-bad-record-requires
-    says-requires
+    (λ c κs. search needs)
+    (λ c κs. search needs)
     returns
-    first-group-fault-requires
-    says-requires-2
+    (λ c κs. search needs)
+    (λ c κs. search needs)
     returns-2
     fill-tables-requires
     first-wide-run-requires
-    says-requires-3
+    (λ c κs. search needs)
     returns-3
-    says-requires-4
+    (λ c κs. search needs)
     returns-4)

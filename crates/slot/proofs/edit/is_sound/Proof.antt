@@ -10,71 +10,48 @@ use borrow.Author.Needs.{needs}
 use Rattle.slot.proofs.edit.is_sound.Statement.{statement}
 use Rattle.slot.proofs.edit.is_sound.Tie as tie
 
-shared-slice-read-m : tie.Need-shared-slice-read-m
-shared-slice-read-m c = search needs
-
-shared-slice-read-x : tie.Need-shared-slice-read-x
-shared-slice-read-x c = search needs
-
-shared-slice-read-count : tie.Need-shared-slice-read-count
-shared-slice-read-count c = search needs
-
-limits-ok-requires : tie.Need-limits-ok-requires
-limits-ok-requires c κs = search needs
-
 returns : tie.Need-returns
-returns c = sym (limits-off (now (c .before .before .before .before .before .before .args .words)) (sym (c .before .limits-ok .ensures) ∙ not-true _ (c .if1 .taken)))
+returns c =
+    sym (limits-off (now (c .before .before .before .before .before .before .args .words))
+    (sym (c .before .limits-ok .ensures) ∙ not-true _ (c .if1 .taken)))
 
 returns-2 : tie.Need-returns-2
-returns-2 c = sym (count-off (now (c .before .before .before .before .before .before .before .args .words)) (sym (c .before .before .limits-ok .ensures) ∙ not-false _ (c .before .if1 .left)) (c .if2 .taken))
-
-cast-end : tie.Need-cast-end
-cast-end c = search needs
-
-mul-end : tie.Need-mul-end
-mul-end c = search needs
-
-add-end : tie.Need-add-end
-add-end c = search needs
-
-sub-check : tie.Need-sub-check
-sub-check c = search needs
-
-part-check-start : tie.Need-part-check-start
-part-check-start c = search needs
-
-part-check-end : tie.Need-part-check-end
-part-check-end c = search needs
+returns-2 c =
+    sym (count-off (now (c .before .before .before .before .before .before .before .args .words))
+    (sym (c .before .before .limits-ok .ensures) ∙ not-false _ (c .before .if1 .left)) (c .if2 .taken))
 
 check-requires : tie.Need-check-requires
 check-requires c κs =
     let s = c .before .before .before .before .before .before .before .before in
     let w = now (s .args .words) in
-    fitting _ _ _ (stored-size w (s .pre) (c .before .if2 .left)) (sym (c .before .before .before .limits-ok .ensures) ∙ not-false _ (c .before .before .if1 .left))
+    fitting _ _ _ (stored-size w (s .pre) (c .before .if2 .left)) (sym (c .before .before .before .limits-ok .ensures)
+    ∙ not-false _ (c .before .before .if1 .left))
 
 returns-3 : tie.Need-returns-3
 returns-3 c =
     let s = c .before .before .before .before .before .before .before .before .before in
     let w = now (s .args .words) in
     c .check .ensures
-    ∙ ap (λ rs. eqb (judged (measureOf w) (indentOf w) rs .number) 0) (stored-paragraph w (s .pre) (c .before .before .if2 .left))
-    ∙ sym (records-tell w (sym (c .before .before .before .before .limits-ok .ensures) ∙ not-false _ (c .before .before .before .if1 .left)) (c .before .before .if2 .left))
+    ∙ ap (λ rs. eqb (judged (measureOf w) (indentOf w) rs .number) 0)
+    (stored-paragraph w (s .pre) (c .before .before .if2 .left))
+    ∙ sym (records-tell w (sym (c .before .before .before .before .limits-ok .ensures) ∙ not-false _
+    (c .before .before .before .if1 .left)) (c .before .before .if2 .left))
 
 pub is-sound-spec : {M : Type 1} → statement M
 is-sound-spec =
     tie.close
     (tie.spec
-    shared-slice-read-m
-    shared-slice-read-x
-    shared-slice-read-count
-    limits-ok-requires
+    (λ c. search needs)
+    (λ c. search needs)
+    (λ c. search needs)
+    (λ c κs. search needs)
     returns
     returns-2
-    cast-end
-    mul-end
-    add-end
-    sub-check
-    part-check-start
-    part-check-end
+    (λ c. search needs)
+    (λ c. search needs)
+    (λ c. search needs)
+    (λ c. search needs)
+    (λ c. search needs)
+    (λ c. search needs)
     check-requires
     returns-3)

@@ -21,12 +21,6 @@ abbrev μ-loop : tie.MeasureT-loop
 loop-holds : tie.Need-loop-holds Inv-loop μ-loop
 loop-holds c = (omega arith, refl, paste-zero (now (c .args .dst)) (c .args .at) (now (c .args .src)))
 
-mul-dst : tie.Need-mul-dst Inv-loop μ-loop
-mul-dst c = search needs
-
-shared-slice-read-dst : tie.Need-shared-slice-read-dst Inv-loop μ-loop
-shared-slice-read-dst c = search needs
-
 add-dst : tie.Need-add-dst Inv-loop μ-loop
 add-dst c = omega arith
 
@@ -45,8 +39,12 @@ loop-less c = omega arith
 loop-again : tie.Need-loop-again Inv-loop μ-loop
 loop-again c =
     let l = c .before .before .loop in
-    let a = c .before .before .before .args in
-    (omega arith, simp length-set (omega arith), rw (l .inv .2, add-one) (paste-suc (now (a .dst)) (a .at) (now (a .src)) (l .j) 0 (omega arith) (c .before .loop-test .taken)))
+    let a = c .before .before .before .args in (
+      omega arith,
+      simp length-set (omega arith),
+      rw (l .inv .2, add-one)
+          (paste-suc (now (a .dst)) (a .at) (now (a .src)) (l .j) 0 (omega arith) (c .before .loop-test .taken)),
+    )
 
 same-length : tie.Need-same-length Inv-loop μ-loop
 same-length c = c .before .loop .inv .1
@@ -61,8 +59,8 @@ copy-in-spec =
     Inv-loop
     μ-loop
     loop-holds
-    mul-dst
-    shared-slice-read-dst
+    (λ c. search needs)
+    (λ c. search needs)
     add-dst
     mul-dst-2
     slice-write-dst

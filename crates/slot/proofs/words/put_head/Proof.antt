@@ -7,9 +7,6 @@ use borrow.Author.Needs.{needs}
 use Rattle.slot.proofs.words.put_head.Statement.{statement}
 use Rattle.slot.proofs.words.put_head.Tie as tie
 
-slice-write-words : tie.Need-slice-write-words
-slice-write-words c = search needs
-
 slice-write-words-2 : tie.Need-slice-write-words-2
 slice-write-words-2 c = simp length-set (omega arith)
 
@@ -19,12 +16,6 @@ slice-write-words-3 c = simp length-set (omega arith)
 slice-write-words-4 : tie.Need-slice-write-words-4
 slice-write-words-4 c = simp length-set (omega arith)
 
-slice-write-words-5 : tie.Need-slice-write-words-5
-slice-write-words-5 c = search needs
-
-same-length : tie.Need-same-length
-same-length c = search needs
-
 returns : tie.Need-returns
 returns c = headed (now (c .args .words)) (c .args .count) (c .args .lines) (c .pre)
 
@@ -32,10 +23,10 @@ pub put-head-spec : {M : Type 1} → statement M
 put-head-spec =
     tie.close
     (tie.spec
-    slice-write-words
+    (λ c. search needs)
     slice-write-words-2
     slice-write-words-3
     slice-write-words-4
-    slice-write-words-5
-    same-length
+    (λ c. search needs)
+    (λ c. search needs)
     returns)

@@ -5,70 +5,37 @@ use borrow.Author.Needs.{needs}
 use Rattle.slot.proofs.words.splice.Statement.{statement}
 use Rattle.slot.proofs.words.splice.Tie as tie
 
-sub-copy-in : tie.Need-sub-copy-in
-sub-copy-in c = search needs
-
-part-copy-in-start : tie.Need-part-copy-in-start
-part-copy-in-start c = search needs
-
-part-copy-in-end : tie.Need-part-copy-in-end
-part-copy-in-end c = search needs
-
-copy-in-requires : tie.Need-copy-in-requires
-copy-in-requires c κs = search needs
-
-copy-in-requires-2 : tie.Need-copy-in-requires-2
-copy-in-requires-2 c κs = search needs
-
-add-copy-in : tie.Need-add-copy-in
-add-copy-in c = search needs
-
-mul-copy-in : tie.Need-mul-copy-in
-mul-copy-in c = search needs
-
-sub-copy-in-2 : tie.Need-sub-copy-in-2
-sub-copy-in-2 c = search needs
-
-part-copy-in-start-2 : tie.Need-part-copy-in-start-2
-part-copy-in-start-2 c = search needs
-
-part-copy-in-end-2 : tie.Need-part-copy-in-end-2
-part-copy-in-end-2 c = search needs
-
-copy-in-requires-3 : tie.Need-copy-in-requires-3
-copy-in-requires-3 c κs = search needs
-
-same-length : tie.Need-same-length
-same-length c = search needs
-
 returns : tie.Need-returns
 returns c =
-    let s = c .before .before .before .before .before .before .before .before .before .before .before .before .before .before .before .before .before in
+    let k₃ = c .before .before in
+    let k₂ = k₃ .before .before .before .before .before in
+    let k₁ = k₂ .before .before .before .before in
+    let s = k₁ .before .before .before .before .before .before in
     let a = s .args in
-    let k₁ = c .before .before .before .before .before .before .before .before .before .before .before .copy-in in
-    let k₂ = c .before .before .before .before .before .before .before .copy-in2 in
-    let k₃ = c .before .before .copy-in3 in
-    splices (now (a .list)) (now (a .records)) (now (a .inserted)) (k₁ .last .0) (k₂ .last .0) (k₃ .last .0) (a .before) (a .after)
+    splices (now (a .list)) (now (a .records)) (now (a .inserted)) (k₁ .copy-in .last .0) (k₂ .copy-in2 .last .0)
+    (k₃ .copy-in3 .last .0)
+    (a .before)
+    (a .after)
     (s .pre .0 .0)
     (s .pre .0 .1)
-    (k₁ .ensures)
-    (k₂ .ensures)
-    (k₃ .ensures)
+    (k₁ .copy-in .ensures)
+    (k₂ .copy-in2 .ensures)
+    (k₃ .copy-in3 .ensures)
 
 pub splice-spec : {M : Type 1} → statement M
 splice-spec =
     tie.close
     (tie.spec
-    sub-copy-in
-    part-copy-in-start
-    part-copy-in-end
-    copy-in-requires
-    copy-in-requires-2
-    add-copy-in
-    mul-copy-in
-    sub-copy-in-2
-    part-copy-in-start-2
-    part-copy-in-end-2
-    copy-in-requires-3
-    same-length
+    (λ c. search needs)
+    (λ c. search needs)
+    (λ c. search needs)
+    (λ c κs. search needs)
+    (λ c κs. search needs)
+    (λ c. search needs)
+    (λ c. search needs)
+    (λ c. search needs)
+    (λ c. search needs)
+    (λ c. search needs)
+    (λ c κs. search needs)
+    (λ c. search needs)
     returns)

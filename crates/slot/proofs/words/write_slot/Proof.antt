@@ -5,48 +5,36 @@ use borrow.Author.Needs.{needs}
 use Rattle.slot.proofs.words.write_slot.Statement.{statement}
 use Rattle.slot.proofs.words.write_slot.Tie as tie
 
-put-head-requires : tie.Need-put-head-requires
-put-head-requires c κs = search needs
-
-copy-in-requires : tie.Need-copy-in-requires
-copy-in-requires c κs = search needs
-
-copy-in-requires-2 : tie.Need-copy-in-requires-2
-copy-in-requires-2 c κs = search needs
-
-copy-in-requires-3 : tie.Need-copy-in-requires-3
-copy-in-requires-3 c κs = search needs
-
-same-length : tie.Need-same-length
-same-length c = search needs
-
 returns : tie.Need-returns
 returns c =
-    let s = c .before .before .before .before .before .before .before .before .before .before .before .before .before .before .before .before .before .before .before .before in
+    let k₄ = c .before .before in
+    let k₃ = k₄ .before .before .before .before .before in
+    let k₂ = k₃ .before .before .before .before .before in
+    let k₁ = k₂ .before .before .before .before in
+    let s = k₁ .before .before .before .before in
     let a = s .args in
-    let k₁ = c .before .before .before .before .before .before .before .before .before .before .before .before .before .before .before .before .put-head in
-    let k₂ = c .before .before .before .before .before .before .before .before .before .before .before .before .copy-in in
-    let k₃ = c .before .before .before .before .before .before .before .copy-in2 in
-    let k₄ = c .before .before .copy-in3 in
-    writes (now (a .words)) (now (a .list)) (now (a .places)) (now (a .lines)) (k₁ .last .0) (k₂ .last .0) (k₃ .last .0) (k₄ .last .0)
+    writes (now (a .words)) (now (a .list)) (now (a .places)) (now (a .lines)) (k₁ .put-head .last .0)
+    (k₂ .copy-in .last .0)
+    (k₃ .copy-in2 .last .0)
+    (k₄ .copy-in3 .last .0)
     (a .count)
     (a .line-count)
     (s .pre .0)
     (s .pre .1)
     (search needs)
     (search needs)
-    (k₁ .ensures)
-    (k₂ .ensures)
-    (k₃ .ensures)
-    (k₄ .ensures)
+    (k₁ .put-head .ensures)
+    (k₂ .copy-in .ensures)
+    (k₃ .copy-in2 .ensures)
+    (k₄ .copy-in3 .ensures)
 
 pub write-slot-spec : {M : Type 1} → statement M
 write-slot-spec =
     tie.close
     (tie.spec
-    put-head-requires
-    copy-in-requires
-    copy-in-requires-2
-    copy-in-requires-3
-    same-length
+    (λ c κs. search needs)
+    (λ c κs. search needs)
+    (λ c κs. search needs)
+    (λ c κs. search needs)
+    (λ c. search needs)
     returns)
