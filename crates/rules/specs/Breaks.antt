@@ -1,6 +1,7 @@
 -- Document 01, "Breaks and adjustment": forbidden breaks, what a gap gives and takes, the smallest width, answer 10,
 -- and the breaking.
 --
+--   L, R             the left and the right unit's side
 --   break            分割, between two units; forbidden, 分割禁止, or permitted
 --   run              here: the units between neighbouring permitted breaks
 --   stage            shrink stage 1 and 2, 詰める処理; stretch stage 1 and 2, 空ける処理
@@ -23,10 +24,10 @@ use Rattle.rules.specs.Space.{Fraction, no-part, eighth, quarter, half, 
 -- "A break between units is forbidden when R is 2 to 7, 9, 10 or 11; when L is 1 or 12; when L and R are both 8 with
 -- equal code points; when both are 27. All other breaks are permitted"
 unfoldable pub forbidden : Side → Side → Bool
-forbidden l r =
-    within 2 7 (r .class) || isIn (r .class) (9 ∷ 10 ∷ 11 ∷ []) || isIn (l .class) (1 ∷ 12 ∷ [])
-    || (eqb (l .class) 8 && eqb (r .class) 8 && eqb (l .code) (r .code))
-    || (eqb (l .class) 27 && eqb (r .class) 27)
+forbidden L R =
+    within 2 7 (R .class) || isIn (R .class) (9 ∷ 10 ∷ 11 ∷ []) || isIn (L .class) (1 ∷ 12 ∷ [])
+    || (eqb (L .class) 8 && eqb (R .class) 8 && eqb (L .code) (R .code))
+    || (eqb (L .class) 27 && eqb (R .class) 27)
 
 abbrev pub bound : TextUnit → TextUnit → Bool
 bound u v = forbidden (side u) (side v)
@@ -38,17 +39,17 @@ pub data Flexibility : Type 0 where
 -- "Shrink stage 1: non-zero gaps of f, of h, and of g with L=7 .. Shrink stage 2: gaps of i and j .. Stretch stage 1:
 -- gaps of i and j"
 unfoldable pub flexibility : Rule → ℕ → Flexibility
-flexibility rule-a l = rigid
-flexibility rule-b l = rigid
-flexibility rule-c l = rigid
-flexibility rule-d l = rigid
-flexibility rule-e l = rigid
-flexibility rule-f l = early
-flexibility rule-g l = cond (eqb l 7) early rigid
-flexibility rule-h l = early
-flexibility rule-i l = late
-flexibility rule-j l = late
-flexibility rule-k l = rigid
+flexibility rule-a L = rigid
+flexibility rule-b L = rigid
+flexibility rule-c L = rigid
+flexibility rule-d L = rigid
+flexibility rule-e L = rigid
+flexibility rule-f L = early
+flexibility rule-g L = cond (eqb L 7) early rigid
+flexibility rule-h L = early
+flexibility rule-i L = late
+flexibility rule-j L = late
+flexibility rule-k L = rigid
 
 -- a space brought to another fraction "of the same size"; what is zero stays so
 abbrev pub instead : Fraction → Fraction → Fraction
@@ -70,28 +71,28 @@ pub record Gap : Type 0 where
 
 -- early: "down to 1/4 of the same size"; late: "down to 1/8" and "up to 1/2". "Other gaps never shrink."
 unfoldable pub gapBy : Flexibility → Space → ℕ → ℕ → ℕ → Gap
-gapBy early p l r w =
-    let s = measured p l r in
-    record { space = s; shrink₁ = s - measured (brought quarter p) l r; shrink₂ = 0; stretch₁ = 0; stretch₂ = w }
-gapBy late p l r w =
-    let s = measured p l r in
+gapBy early p left right w =
+    let s = measured p left right in
+    record { space = s; shrink₁ = s - measured (brought quarter p) left right; shrink₂ = 0; stretch₁ = 0; stretch₂ = w }
+gapBy late p left right w =
+    let s = measured p left right in
     record {
       space = s;
       shrink₁ = 0;
-      shrink₂ = s - measured (brought eighth p) l r;
-      stretch₁ = measured (brought half p) l r - s;
+      shrink₂ = s - measured (brought eighth p) left right;
+      stretch₁ = measured (brought half p) left right - s;
       stretch₂ = w;
     }
-gapBy rigid p l r w = record { space = measured p l r; shrink₁ = 0; shrink₂ = 0; stretch₁ = 0; stretch₂ = w }
+gapBy rigid p left right w = record { space = measured p left right; shrink₁ = 0; shrink₂ = 0; stretch₁ = 0; stretch₂ = w }
 
 -- "Stretch stage 2: every permitted-break gap with class 5 on neither side, weight 1 each, no limit."
 unfoldable pub weight : Side → Side → ℕ
-weight l r = cond (not (forbidden l r) && not (eqb (l .class) 5) && not (eqb (r .class) 5)) 1 0
+weight L R = cond (not (forbidden L R) && not (eqb (L .class) 5) && not (eqb (R .class) 5)) 1 0
 
 unfoldable pub gapOf : Side → Side → Gap
-gapOf l r =
-    gapBy (flexibility (ruleOf (l .class) (r .class)) (l .class)) (spaceOf (l .class) (r .class)) (l .size) (r .size)
-    (weight l r)
+gapOf L R =
+    gapBy (flexibility (ruleOf (L .class) (R .class)) (L .class)) (spaceOf (L .class) (R .class)) (L .size) (R .size)
+    (weight L R)
 
 abbrev pub gap : TextUnit → TextUnit → Gap
 gap u v = gapOf (side u) (side v)
@@ -129,7 +130,7 @@ filled m x l (k ∷ ks) =
     elim (leb (x + width (then l k)) m) [ true ↦ filled m x (then l k) ks | false ↦ l ∷ filled m 0 k ks ]
 
 -- "Each line takes the longest run of units ending at a permitted break or the paragraph's end whose smallest width,
--- indent included, is at most the measure." That these lines are the longest ones is `longest` of proofs/Claims.antt
+-- indent included, is at most the measure." That these are the longest is `lines-chosen` of proofs/Claims.antt
 unfoldable pub breaking : ℕ → ℕ → List (Run TextUnit) → List (Run TextUnit)
 breaking m x [] = []
 breaking m x (l ∷ ls) = filled m x l ls

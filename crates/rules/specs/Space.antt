@@ -17,17 +17,17 @@ pub data Rule : Type 0 where
 
 -- "The first matching rule holds."
 unfoldable pub ruleOf : ℕ → ℕ → Rule
-ruleOf l r =
-    cond (eqb l 5 && eqb r 5) rule-a
-    (cond (isIn l (6 ∷ 7 ∷ []) && eqb r 5) rule-b
-    (cond (eqb r 5) rule-c
-    (cond (eqb l 5) rule-d
-    (cond (eqb l 1) rule-e
-    (cond (eqb l 2) rule-f
-    (cond (isIn l (6 ∷ 7 ∷ [])) rule-g
-    (cond (eqb r 1) rule-h
-    (cond (eqb l 27 && isIn r (9 ∷ 10 ∷ 11 ∷ 15 ∷ 16 ∷ 19 ∷ [])) rule-i
-    (cond (eqb r 27 && isIn l (4 ∷ 9 ∷ 10 ∷ 11 ∷ 15 ∷ 16 ∷ 19 ∷ [])) rule-j
+ruleOf L R =
+    cond (eqb L 5 && eqb R 5) rule-a
+    (cond (isIn L (6 ∷ 7 ∷ []) && eqb R 5) rule-b
+    (cond (eqb R 5) rule-c
+    (cond (eqb L 5) rule-d
+    (cond (eqb L 1) rule-e
+    (cond (eqb L 2) rule-f
+    (cond (isIn L (6 ∷ 7 ∷ [])) rule-g
+    (cond (eqb R 1) rule-h
+    (cond (eqb L 27 && isIn R (9 ∷ 10 ∷ 11 ∷ 15 ∷ 16 ∷ 19 ∷ [])) rule-i
+    (cond (eqb R 27 && isIn L (4 ∷ 9 ∷ 10 ∷ 11 ∷ 15 ∷ 16 ∷ 19 ∷ [])) rule-j
     rule-k)))))))))
 
 -- fractions of a size, which is a multiple of 8
@@ -50,22 +50,22 @@ spaced a b = record { left = a; right = b }
 
 -- the space in the units of the sheet, for a left and a right size
 unfoldable pub measured : Space → ℕ → ℕ → ℕ
-measured p l r = part (p .left) l + part (p .right) r
+measured p left right = part (p .left) left + part (p .right) right
 
 -- what each rule sets between classes L and R
 unfoldable pub spaceBy : Rule → ℕ → ℕ → Space
-spaceBy rule-a l r = spaced quarter quarter
-spaceBy rule-b l r = spaced half quarter
-spaceBy rule-c l r = spaced no-part quarter
-spaceBy rule-d l r = spaced quarter no-part
-spaceBy rule-e l r = spaced no-part no-part
-spaceBy rule-f l r = cond (isIn r (2 ∷ 6 ∷ 7 ∷ 14 ∷ [])) (spaced no-part no-part) (spaced half no-part)
-spaceBy rule-g l r = cond (isIn r (2 ∷ 6 ∷ 7 ∷ [])) (spaced no-part no-part) (spaced half no-part)
-spaceBy rule-h l r = cond (eqb l 14) (spaced no-part no-part) (spaced no-part half)
-spaceBy rule-i l r = spaced no-part quarter
-spaceBy rule-j l r = spaced quarter no-part
-spaceBy rule-k l r = spaced no-part no-part
+spaceBy rule-a L R = spaced quarter quarter
+spaceBy rule-b L R = spaced half quarter
+spaceBy rule-c L R = spaced no-part quarter
+spaceBy rule-d L R = spaced quarter no-part
+spaceBy rule-e L R = spaced no-part no-part
+spaceBy rule-f L R = cond (isIn R (2 ∷ 6 ∷ 7 ∷ 14 ∷ [])) (spaced no-part no-part) (spaced half no-part)
+spaceBy rule-g L R = cond (isIn R (2 ∷ 6 ∷ 7 ∷ [])) (spaced no-part no-part) (spaced half no-part)
+spaceBy rule-h L R = cond (eqb L 14) (spaced no-part no-part) (spaced no-part half)
+spaceBy rule-i L R = spaced no-part quarter
+spaceBy rule-j L R = spaced quarter no-part
+spaceBy rule-k L R = spaced no-part no-part
 
 -- the space between classes L and R
 unfoldable pub spaceOf : ℕ → ℕ → Space
-spaceOf l r = spaceBy (ruleOf l r) l r
+spaceOf L R = spaceBy (ruleOf L R) L R
