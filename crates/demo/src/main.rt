@@ -1,0 +1,115 @@
+// Three clinics share a sheet: a dose note, an aftercare note with ruby, calls that are refused, and a changed dose.
+mod lines;
+mod records;
+mod show;
+mod texts;
+mod utf8;
+
+use lines::print_slot;
+use records::NO_RUBY;
+use records::Ruby;
+use records::SIZE;
+use records::first_words;
+use records::put_records;
+use sheet::Clinic;
+use sheet::SlotNumber;
+use show::print_answer;
+use show::print_ruby;
+use show::print_text;
+use show::say;
+use texts::CARE_NOTE;
+use texts::DOSE_NOTE;
+use texts::LONG_WORD;
+use texts::MEDICINE;
+use texts::MEDICINE_RUBY;
+use texts::NEW_DOSE;
+use texts::SORE_PART;
+use texts::SORE_PART_RUBY;
+
+fn set_up_clinics(sheet: &mut [u32]) {
+    say(b"Clinics 7, 8, 9 get slots 0, 1, 2 of measures 550, 560, 400 and indents 80, 80, 0.\n");
+    let clinics = [7, 8, 9];
+    let measures = [550, 560, 400];
+    let indents = [80, 80, 0];
+    let answer = sheet::set_up(sheet, &clinics, &measures, &indents);
+    print_answer(answer, b" slots");
+}
+
+// Shows a text, and what the sheet answers when it comes in at a place for the records that are deleted there.
+fn write(
+    sheet: &mut [u32],
+    caller: Clinic,
+    slot: SlotNumber,
+    place: u32,
+    deleted: u32,
+    text: &[u64],
+    ruby: Ruby,
+) {
+    print_text(text);
+    let mut words = [0u32; 384];
+    let n = put_records(text, ruby, &mut words);
+    let inserted = first_words(&words, n);
+    let answer = sheet::edit(sheet, caller, slot, place, deleted, inserted);
+    print_answer(answer, b" lines");
+}
+
+// Line 0 shrinks the space before its bracket. Line 1 would have room for 500, but not for 500mg, which never breaks:
+// it ends before the dose, and is stretched.
+fn write_dose_note(sheet: &mut [u32]) {
+    say(b"\nClinic 7 writes a dose note into slot 0. The dose and its unit must stay together.\n");
+    write(sheet, Clinic(7), SlotNumber(0), 0, 0, &DOSE_NOTE, NO_RUBY);
+    say(b"Clinic 7 reads slot 0. Under each character stands its x.\n");
+    print_slot(sheet, Clinic(7), SlotNumber(0));
+}
+
+// Ruby comes in with the characters under it. Over record 16 it is the wider row, so that a line breaks earlier.
+fn write_care_note(sheet: &mut [u32]) {
+    say(b"\nClinic 8 writes an aftercare note into slot 1.\n");
+    write(sheet, Clinic(8), SlotNumber(1), 0, 0, &CARE_NOTE, NO_RUBY);
+    let three = Ruby { group: 1, count: 3 };
+    say(b"Clinic 8 sets records 0 and 1 anew, as a group with three ruby characters.\n");
+    write(sheet, Clinic(8), SlotNumber(1), 0, 2, &SORE_PART, three);
+    print_ruby(2 * SIZE, 3, SIZE, &SORE_PART_RUBY);
+    say(b"Clinic 8 sets record 16 anew, as a group with three ruby characters.\n");
+    write(sheet, Clinic(8), SlotNumber(1), 16, 1, &MEDICINE, three);
+    print_ruby(SIZE, 3, SIZE, &MEDICINE_RUBY);
+    say(b"Clinic 8 reads slot 1.\n");
+    print_slot(sheet, Clinic(8), SlotNumber(1));
+}
+
+fn try_refused_edits(sheet: &mut [u32]) {
+    say(b"\nClinic 8 changes the dose in slot 0.\n");
+    write(sheet, Clinic(8), SlotNumber(0), 11, 3, &NEW_DOSE, NO_RUBY);
+    say(b"Clinic 7 inserts a comma that is as wide as a kanji, before record 22 of slot 0.\n");
+    let comma = [0x3001, 7, SIZE, SIZE, 0, 0];
+    let answer = sheet::edit(sheet, Clinic(7), SlotNumber(0), 22, 0, &comma);
+    print_answer(answer, b" lines");
+    say(b"Clinic 9 writes a word that is wider than its measure into slot 2.\n");
+    write(sheet, Clinic(9), SlotNumber(2), 0, 0, &LONG_WORD, NO_RUBY);
+}
+
+// A refused read and an empty slot can be told apart.
+fn try_reads(sheet: &[u32]) {
+    say(b"\nClinic 8 reads slot 0.\n");
+    print_slot(sheet, Clinic(8), SlotNumber(0));
+    say(b"Clinic 9 reads slot 2.\n");
+    print_slot(sheet, Clinic(9), SlotNumber(2));
+}
+
+fn change_dose(sheet: &mut [u32]) {
+    say(b"\nClinic 7 changes the dose in slot 0: records 11 to 13 go out, and three come in.\n");
+    write(sheet, Clinic(7), SlotNumber(0), 11, 3, &NEW_DOSE, NO_RUBY);
+    say(b"Clinic 7 reads slot 0.\n");
+    print_slot(sheet, Clinic(7), SlotNumber(0));
+}
+
+fn main() {
+    let mut words = [0u32; 8472];
+    let sheet: &mut [u32] = &mut words;
+    set_up_clinics(sheet);
+    write_dose_note(sheet);
+    write_care_note(sheet);
+    try_refused_edits(sheet);
+    try_reads(sheet);
+    change_dose(sheet);
+}
