@@ -9,11 +9,11 @@ use lib.Seq.{sets}
 use Rattle.rules.specs.Basics.{alone, whole}
 use Rattle.rules.specs.Records.{recAt}
 use Rattle.rules.specs.Groups.{Side, sideBy, count, counts, advance}
-use Rattle.rules.specs.Breaks.{gap, forbidden, bound, least, smallest, width}
+use Rattle.rules.specs.Breaks.{Gap, gap, gapOf, forbidden, bound, least, smallest, width}
 use Rattle.rules.specs.Meanings.{lastIn}
 use Rattle.rules.proofs.Limits.{GapBounds}
 use Rattle.compose.specs.Paragraph.{size, unitAt, nextAt, gapAfter, runAt, runEnd}
-use Rattle.compose.specs.Tables.{gapIn, RunRowOf, RunRow, RunsFrom, RunsAfter}
+use Rattle.compose.specs.Tables.{RunRowOf, RunRow, RunsFrom, RunsAfter}
 use Rattle.compose.proofs.Walk.{unit-step, run-step, run-last, run-more}
 use Rattle.compose.proofs.Walk.{run-width, run-records, run-lastIn, gap-is, bound-is}
 use Rattle.compose.proofs.Limits.{gap-limits, run-limit}
@@ -24,7 +24,7 @@ use Rattle.compose.proofs.Stored.{row-stored, row-kept, one-more}
 abbrev after : List ℕ → ℕ → ℕ
 after us i = i + getD us (3 * i) 0
 
-module _ {ws us gs t : List ℕ} {i : ℕ} (p : RunsAfter ws us gs t i) where
+module _ {ws us t : List ℕ} {i : ℕ} (p : RunsAfter ws us t i) where
   pub unit : UnitWords ws us i
   unit = unit-words (p .checked) (p .units) i (p .inside)
 
@@ -54,9 +54,6 @@ module _ {ws us gs t : List ℕ} {i : ℕ} (p : RunsAfter ws us gs t i) where
     more : nextAt ws i < size ws
     more = rw (← unit .next) h
 
-    pub gap-words : GapBounds (gapIn gs i)
-    gap-words = rw (p .gaps i (p .inside) more) (gap-limits ws (p .checked) i (p .inside) more)
-
     later : RunRow ws t (after us i)
     later = let w = unit in p .after (after us i) (omega arith) h
 
@@ -73,37 +70,45 @@ module _ {ws us gs t : List ℕ} {i : ℕ} (p : RunsAfter ws us gs t i) where
           light = rw (later .is-width) (run-limit ws (p .checked) (after us i) h);
         }
 
-    -- what the neighbours see of the two units tells whether the break between them is forbidden
-    module _ {l r : Side} {g : ℕ} (a : l ≡ sideBy (recAt ws i)) (b : r ≡ sideBy (recAt ws (after us i)))
-        (q : g ≡ least (gapIn gs i)) where
+    -- what the neighbours see of the two units tells the gap, and whether the break between them is forbidden
+    module _ {l r : Side} {k : Gap} (a : l ≡ sideBy (recAt ws i)) (b : r ≡ sideBy (recAt ws (after us i)))
+        (e : k ≡ gapOf l r) where
+      pub gap-found : k ≡ gapAfter ws i
+      unfolding gapAfter
+      gap-found = e ∙ rw (a, b, unit .next)
+
+      pub gap-words : GapBounds k
+      gap-words = rw gap-found (gap-limits ws (p .checked) i (p .inside) more)
+
       tied : bound (unitAt ws i) (unitAt ws (nextAt ws i)) ≡ forbidden l r
       tied = rw (a, b, unit .next) (bound-is ws i (p .inside) more)
 
-      pub row-apart : forbidden l r ≡ false → RunRowOf ws i (getD us (3 * i + 2) 0) (getD us (3 * i) 0) g
-      row-apart f =
+      pub row-apart : {g : ℕ} → g ≡ least k → forbidden l r ≡ false →
+          RunRowOf ws i (getD us (3 * i + 2) 0) (getD us (3 * i) 0) g
+      row-apart {g} q f =
           let o : bound (unitAt ws i) (unitAt ws (nextAt ws i)) ≡ false = tied ∙ f in
           alone-row g (rw (run-more ws i (p .inside) more, o))
-          (λ k. q ∙ ap (λ x. least x) (p .gaps i (p .inside) more ∙ sym (gap-is ws i (p .inside) more)))
+          (λ n. q ∙ ap (λ x. least x) (gap-found ∙ sym (gap-is ws i (p .inside) more)))
 
-      pub row-bound : forbidden l r ≡ true →
+      pub row-bound : {g : ℕ} → g ≡ least k → forbidden l r ≡ true →
           RunRowOf ws i (getD us (3 * i + 2) 0 + (g + getD t (3 * after us i) 0))
           (getD us (3 * i) 0 + getD t (3 * after us i + 1) 0)
           (getD t (3 * after us i + 2) 0)
-      row-bound f =
+      row-bound {g} q f =
           let o : bound (unitAt ws i) (unitAt ws (nextAt ws i)) ≡ true = tied ∙ f in
           let u = p .units i (p .inside) in
           let n = after us i in
-          let e = unit .next in
+          let h = unit .next in
           let w : width (runAt ws i) ≡ advance (unitAt ws i) + (least (gapAfter ws i) + width (runAt ws n)) =
-          rw e (run-width ws i (p .inside) more o) in
+          rw h (run-width ws i (p .inside) more o) in
           let c : counts (whole (runAt ws i)) ≡ count (unitAt ws i) + counts (whole (runAt ws n)) =
-          rw e (run-records ws i (p .inside) more o) in
-          let d : lastIn (runAt ws i) ≡ lastIn (runAt ws n) = rw e (run-lastIn ws i (p .inside) more o) in
-          let k : runEnd ws i ≡ runEnd ws n = omega (arith, c, e) in
+          rw h (run-records ws i (p .inside) more o) in
+          let d : lastIn (runAt ws i) ≡ lastIn (runAt ws n) = rw h (run-lastIn ws i (p .inside) more o) in
+          let z : runEnd ws i ≡ runEnd ws n = omega (arith, c, h) in
           record {
-            is-width = rw (u .advance, q ∙ ap (λ x. least x) (p .gaps i (p .inside) more), later .is-width) (sym w);
+            is-width = rw (u .advance, q ∙ ap (λ x. least x) gap-found, later .is-width) (sym w);
             is-records = omega (arith, later .is-records, u .records, c);
-            is-gap = rw (k, d) (later .is-gap);
+            is-gap = rw (z, d) (later .is-gap);
           }
 
 -- the rows from record i on are filled

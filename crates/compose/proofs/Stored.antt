@@ -69,10 +69,10 @@ module _ (t : List ℕ) (i : ℕ) (g : Gap) where
         stretch₂ = word 4 (5 * i + 4) refl (omega arith) p;
       }
 
-  pub gap-kept : (k : ℕ) → k < i → gapIn (sets t (5 * i) (gapWords g)) k ≡ gapIn t k
+  pub gap-kept : (k : ℕ) → i < k → gapIn (sets t (5 * i) (gapWords g)) k ≡ gapIn t k
   gap-kept k h =
-      let word : (j : ℕ) → j < 5 * i → getD (sets t (5 * i) (gapWords g)) j 0 ≡ getD t j 0 =
-      λ j l. kept (gapWords g) t (5 * i) j (inl l) in
+      let word : (j : ℕ) → 5 * i + 5 ≤ j → getD (sets t (5 * i) (gapWords g)) j 0 ≡ getD t j 0 =
+      λ j l. kept (gapWords g) t (5 * i) j (inr l) in
       λ p.
       record {
         space = word (5 * k) (omega arith) p;

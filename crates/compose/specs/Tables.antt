@@ -13,7 +13,9 @@ use Rattle.rules.specs.Basics.{Run, whole}
 use Rattle.rules.specs.Groups.{count, counts, baseTotal, advance}
 use Rattle.rules.specs.Breaks.{Gap, gap as gapOf, least, width as widthOf}
 use Rattle.rules.specs.Meanings.{lastIn}
+use Rattle.rules.specs.Values.{gapFrom}
 use Rattle.compose.specs.Paragraph.{size, unitAt, nextAt, gapAfter, runAt, runEnd, Checked}
+use Rattle.compose.specs.declared.tables.Row.{Row}
 
 pub record UnitRow (ws t : List ℕ) (i : ℕ) : Type 0 where
   pub records : getD t (3 * i) 0 ≡ count (unitAt ws i)
@@ -57,13 +59,22 @@ RunRow ws t i = RunRowOf ws i (getD t (3 * i) 0) (getD t (3 * i + 1) 0) (getD t 
 abbrev pub RunsFrom : List ℕ → List ℕ → ℕ → Type 0
 RunsFrom ws t k = (i : ℕ) → k ≤ i → i < size ws → RunRow ws t i
 
--- what row i is made from: the other tables, and the rows after it
-pub record RunsAfter (ws us gs t : List ℕ) (i : ℕ) : Type 0 where
+-- what row i is made from: the unit table, and the rows after it
+pub record RunsAfter (ws us t : List ℕ) (i : ℕ) : Type 0 where
   pub checked : Checked ws
   pub units : UnitTable ws us
-  pub gaps : GapTable ws gs
   pub after : RunsFrom ws t (i + 1)
   pub inside : i < size ws
 
+-- what the two tables are to have for record i
+pub record RowOf (ws : List ℕ) (i : ℕ) (row : Row) : Type 0 where
+  pub gap : nextAt ws i < size ws → gapFrom (row .gap) ≡ gapAfter ws i
+  pub run : RunRowOf ws i (row .width) (row .records) (row .least)
+
 abbrev pub RunTable : List ℕ → List ℕ → Type 0
 RunTable ws t = RunsFrom ws t 0
+
+-- no row is wider than m, and the first fits from x on
+pub record AllNarrow (ws t : List ℕ) (m x : ℕ) : Type 0 where
+  pub first : x + getD t 0 0 ≤ m
+  pub rows : (i : ℕ) → i < size ws → getD t (3 * i) 0 ≤ m

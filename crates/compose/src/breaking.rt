@@ -1,11 +1,34 @@
 // Answer 10, and the breaking.
 ghost use mathlib.Core.Path.{_≡_};
+ghost use mathlib.Core.Bool.{true};
 ghost use Prim.Native.Nat.{_≤_};
 ghost use Rattle.rules.specs.Groups.{units};
 ghost use Rattle.rules.specs.Breaks.{noBreaking};
 ghost use Rattle.compose.specs.Paragraph.{size, paragraph, placeOr, Checked};
-ghost use Rattle.compose.specs.Tables.{RunTable};
+ghost use Rattle.compose.specs.Tables.{RunTable, AllNarrow};
 ghost use Rattle.compose.specs.Lines.{Broken};
+
+// Whether no row of the run table is too wide: then no run is.
+fn all_narrow(ws: &[u32], runs: &[u32; 768], m: u32, x: u32) -> bool
+    requires { ⌜ size (now ws) ≤ 256 ⌝ }
+    ensures { λ b. ⌜ (b ≡ true → AllNarrow (now (ws .entry)) (now (runs .entry)) m x) ⌝ }
+{
+    if m < x {
+        return false;
+    }
+    if m - x < runs[0] {
+        return false;
+    }
+    let n = ws.len() / 6;
+    let mut i = 0;
+    while i < n {
+        if m < runs[3 * i] {
+            return false;
+        }
+        i += 1;
+    }
+    true
+}
 
 // The first record of the first run that is too wide, or how many records there are. The first run starts at `x`.
 pub fn first_wide_run(ws: &[u32], runs: &[u32; 768], m: u32, x: u32) -> usize
@@ -13,6 +36,10 @@ pub fn first_wide_run(ws: &[u32], runs: &[u32; 768], m: u32, x: u32) -> usize
     ensures { λ r. ⌜ r ≡ placeOr (size (now (ws .entry))) (noBreaking m x (units (paragraph (now (ws .entry))))) ⌝ }
 {
     let n = ws.len() / 6;
+    // most often all fit, which the rows in order tell sooner than one run after the other
+    if all_narrow(ws, runs, m, x) {
+        return n;
+    }
     let mut i = 0;
     let mut start = x;
     while i < n {

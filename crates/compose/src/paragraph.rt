@@ -10,8 +10,7 @@ use crate::breaking::first_wide_run;
 use crate::checks::first_bad_record;
 use crate::checks::first_group_fault;
 use crate::places::place_lines;
-use crate::tables::fill_gaps;
-use crate::tables::fill_runs;
+use crate::tables::fill_gaps_and_runs;
 use crate::tables::fill_units;
 
 // A number and a place, as document 01's table of refusals has them.
@@ -31,14 +30,13 @@ fn says(number: u32, place: usize) -> Answer
     }
 }
 
-// Fills the tables of units and gaps, then of runs, from a paragraph that answers 8 and 9 let pass.
+// Fills the table of units, then those of gaps and runs, from a paragraph that answers 8 and 9 let pass.
 fn fill_tables(ws: &[u32], units: &mut [u32; 768], gaps: &mut [u32; 1280], runs: &mut [u32; 768])
     requires { ⌜ Checked (now ws) ⌝ }
     ensures { λ _. ⌜ Filled (now (ws .entry)) (now (units .exit)) (now (gaps .exit)) (now (runs .exit)) ⌝ }
 {
     fill_units(ws, units);
-    fill_gaps(ws, units, gaps);
-    fill_runs(ws, units, gaps, runs);
+    fill_gaps_and_runs(ws, units, gaps, runs);
 }
 
 // Answers 8, 9 and 10 of a paragraph, in the measure `m` with the indent `x`; or 0, and the tables are filled.

@@ -10,8 +10,8 @@ ghost use Rattle.rules.specs.Groups.{sideBy};
 ghost use Rattle.rules.specs.Breaks.{least};
 ghost use Rattle.rules.specs.Values.{sideOf, gapFrom};
 ghost use Rattle.compose.specs.Paragraph.{size, Checked};
-ghost use Rattle.compose.specs.Tables.{UnitTable, gapIn, gapWords, Gives, GapTable};
-ghost use Rattle.compose.specs.Tables.{RunRowOf, RunsAfter, RunTable};
+ghost use Rattle.compose.specs.Tables.{UnitTable, gapWords, Gives, GapTable};
+ghost use Rattle.compose.specs.Tables.{RowOf, RunsAfter, RunTable};
 use crate::checks::record_at;
 use crate::checks::same_group;
 use rules::Gap;
@@ -82,92 +82,93 @@ fn put_gap(gaps: &mut [u32], i: usize, gap: Gap)
     gaps[a + 4] = gap.stretch2;
 }
 
-// For each record the gap after the unit that starts with it, where another unit follows.
-pub fn fill_gaps(ws: &[u32], units: &[u32; 768], gaps: &mut [u32; 1280])
-    requires { ⌜ Checked (now ws) × UnitTable (now ws) (now units) ⌝ }
-    ensures { λ _. ⌜ GapTable (now (ws .entry)) (now (gaps .exit)) ⌝ }
-{
-    let n = ws.len() / 6;
-    let mut i = 0;
-    while i < n {
-        let next = i + units[3 * i] as usize;
-        if next < n {
-            put_gap(gaps, i, gap_between(side_at(ws, i), side_at(ws, next)));
-        }
-        i += 1;
+// Where no unit follows.
+fn no_gap() -> Gap {
+    Gap {
+        space: 0,
+        shrink1: 0,
+        shrink2: 0,
+        stretch1: 0,
+        stretch2: 0,
     }
 }
 
-// The least that the gap in row `i` can be.
-fn least_at(gaps: &[u32; 1280], i: usize) -> u32
-    requires { ⌜ (i < 256) × Gives (gapIn (now gaps) i) ⌝ }
-    ensures { λ r. ⌜ r ≡ least (gapIn (now (gaps .entry)) i) ⌝ }
+// The least that a gap can be.
+fn least_of(gap: Gap) -> u32
+    requires { ⌜ Gives (gapFrom gap) ⌝ }
+    ensures { λ r. ⌜ r ≡ least (gapFrom gap) ⌝ }
 {
-    let a = 5 * i;
-    let space = gaps[a];
-    let shrink1 = gaps[a + 1];
-    let shrink2 = gaps[a + 2];
-    space - shrink1 - shrink2
+    gap.space - gap.shrink1 - gap.shrink2
 }
 
-// A row of the run table.
-pub(crate) struct RunRow {
+// What the tables of gaps and runs have for a record: the gap after its unit, and the width, the records and the least
+// gap after its run.
+pub(crate) struct Row {
+    pub gap: Gap,
     pub width: u32,
     pub records: u32,
-    pub gap: u32,
+    pub least: u32,
 }
 
 // The row of record `i`, from the rows after it.
-fn run_row(
-    ws: &[u32],
-    units: &[u32; 768],
-    gaps: &[u32; 1280],
-    runs: &[u32; 768],
-    i: usize,
-) -> RunRow
-    requires { ⌜ RunsAfter (now ws) (now units) (now gaps) (now runs) i ⌝ }
-    ensures { λ r. ⌜ RunRowOf (now (ws .entry)) i (r .width) (r .records) (r .gap) ⌝ }
+fn row_at(ws: &[u32], units: &[u32; 768], runs: &[u32; 768], i: usize) -> Row
+    requires { ⌜ RunsAfter (now ws) (now units) (now runs) i ⌝ }
+    ensures { λ r. ⌜ RowOf (now (ws .entry)) i r ⌝ }
 {
     let records = units[3 * i];
     let advance = units[3 * i + 2];
     let next = i + records as usize;
     if ws.len() / 6 <= next {
-        return RunRow {
+        return Row {
+            gap: no_gap(),
             width: advance,
             records: records,
-            gap: 0,
+            least: 0,
         };
     }
-    let gap = least_at(gaps, i);
-    if break_forbidden(side_at(ws, i), side_at(ws, next)) {
+    let l = side_at(ws, i);
+    let r = side_at(ws, next);
+    let tied = break_forbidden(l, r);
+    let gap = gap_between(l, r, tied);
+    let least = least_of(gap);
+    if tied {
         let a = 3 * next;
-        let width = advance + (gap + runs[a]);
+        let width = advance + (least + runs[a]);
         let total = records + runs[a + 1];
         let last = runs[a + 2];
-        RunRow {
+        Row {
+            gap: gap,
             width: width,
             records: total,
-            gap: last,
+            least: last,
         }
     } else {
-        RunRow {
+        Row {
+            gap: gap,
             width: advance,
             records: records,
-            gap: gap,
+            least: least,
         }
     }
 }
 
-// For each record the run that starts with the unit that starts there: its smallest width, its records, and the least
-// of the gap after it.
-pub fn fill_runs(ws: &[u32], units: &[u32; 768], gaps: &[u32; 1280], runs: &mut [u32; 768])
-    requires { ⌜ Checked (now ws) × UnitTable (now ws) (now units) × GapTable (now ws) (now gaps) ⌝ }
-    ensures { λ _. ⌜ RunTable (now (ws .entry)) (now (runs .exit)) ⌝ }
+// For each record the gap after the unit that starts with it, where another unit follows; and the run that starts with
+// that unit: its smallest width, its records, and the least of the gap after it.
+pub fn fill_gaps_and_runs(
+    ws: &[u32],
+    units: &[u32; 768],
+    gaps: &mut [u32; 1280],
+    runs: &mut [u32; 768],
+)
+    requires { ⌜ Checked (now ws) × UnitTable (now ws) (now units) ⌝ }
+    ensures { λ _. ⌜ GapTable (now (ws .entry)) (now (gaps .exit)) × RunTable (now (ws .entry)) (now (runs .exit)) ⌝ }
 {
     let mut i = ws.len() / 6;
     while 0 < i {
         i -= 1;
-        let row = run_row(ws, units, gaps, runs, i);
-        put_row(runs, i, row.width, row.records, row.gap);
+        let row = row_at(ws, units, runs, i);
+        let gap = row.gap;
+        put_gap(gaps, i, gap);
+        put_row(runs, i, row.width, row.records, row.least);
     }
 }

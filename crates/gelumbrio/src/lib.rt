@@ -1,19 +1,13 @@
-// The calls for programs in C and Rust. A slice passes as a pointer, then its length in words. The header that declares
-// them is include/gelumbrio.h.
+// The calls for programs in C and Rust. A slice passes as a pointer, then its length in words. The header that
+// declares them is include/gelumbrio.h.
 use sheet::Answer;
 use sheet::Clinic;
+use sheet::Part;
 use sheet::RubyPlace;
 use sheet::SlotNumber;
 ghost use mathlib.Core.Path.{_≡_};
 ghost use Rattle.rules.specs.Groups.{rubyPlace};
 ghost use Rattle.rules.specs.Refusals.{says, setUp, edit, readNumber, readStart, readLength};
-
-// A part of the sheet, in words: an export cannot return a reference.
-#[repr(C)]
-pub struct Part {
-    pub start: usize,
-    pub length: usize,
-}
 
 #[no_mangle]
 pub extern "C" fn gelumbrio_set_up(
@@ -50,22 +44,13 @@ pub extern "C" fn gelumbrio_read_number(sheet: &[u32], caller: Clinic, slot: Slo
     sheet::read_number(sheet, caller, slot)
 }
 
+// The part is told by its start and length, since an export cannot return a reference.
 #[no_mangle]
 pub extern "C" fn gelumbrio_read(sheet: &[u32], caller: Clinic, slot: SlotNumber) -> Part
     ensures { λ r. ⌜ (r .start ≡ readStart (now (sheet .entry)) (caller .0) (slot .0))
         × (r .length ≡ readLength (now (sheet .entry)) (caller .0) (slot .0)) ⌝ }
 {
-    if sheet::read_number(sheet, caller, slot) != 0 {
-        return Part {
-            start: 0,
-            length: 0,
-        };
-    }
-    let part = sheet::read(sheet, caller, slot);
-    Part {
-        start: 2824 * slot.0 as usize + 2056,
-        length: part.len(),
-    }
+    sheet::read_part(sheet, caller, slot)
 }
 
 #[no_mangle]

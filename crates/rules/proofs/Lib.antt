@@ -16,5 +16,6 @@ pub mod Zeros
 pub mod Claims
 pub mod Bounds
 pub mod Gaps
+pub mod Ties
 pub mod Rows
 pub mod Table

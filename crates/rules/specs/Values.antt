@@ -1,7 +1,7 @@
 -- The program's values as the rules have them: a struct of src/ field by field, an enum of src/ case by case. Of a
 -- name that the two share, the program's ends in `Value`.
 --
---   .. of        what a function is told: record, side, the rules that match
+--   .. of        what a function is told: record, side
 --   .. from      what a function answers: kind of advance, rule, gap
 --   classed      the row is that of the class number
 --   bounds       what a function asks of the numbers that it is told, so that its sums and products fit 32 bits
@@ -9,8 +9,10 @@
 -- Assumes nothing.
 use mathlib.Core.Path.{_≡_}
 use Prim.Native.Nat.{ℕ, zero, suc, _≤_, _<_}
-use mathlib.Core.Bool.{Bool}
-use mathlib.Core.List.{List, [], _∷_}
+use mathlib.Core.Bool.{cond, _&&_}
+use mathlib.Core.List.{[], _∷_}
+use lib.Dec.{eqb}
+use Rattle.rules.specs.Basics.{isIn}
 use Rattle.rules.specs.Records.{Rec, recOf, rowOf, advanceKind}
 use Rattle.rules.specs.Records.{AdvanceKind, half-size, to-size, to-twice, full-size}
 use Rattle.rules.specs.Groups.{Side}
@@ -22,7 +24,6 @@ use Rattle.rules.specs.declared.records.ClassRow.{ClassRow}
 use Rattle.rules.specs.declared.records.AdvanceKind.{AdvanceKind as KindValue}
 use Rattle.rules.specs.declared.records.AdvanceKind.the-variants.{HalfSize, ToSize, ToTwice, FullSize}
 use Rattle.rules.specs.declared.groups.Side.{Side as SideValue}
-use Rattle.rules.specs.declared.space.Matches.{Matches}
 use Rattle.rules.specs.declared.space.Rule.{Rule as RuleValue}
 use Rattle.rules.specs.declared.space.Rule.the-variants.{A, B, C, D, E, F, G, H, I, J, K}
 use Rattle.rules.specs.declared.breaks.Gap.{Gap as GapValue}
@@ -69,20 +70,12 @@ ruleFrom I = rule-i
 ruleFrom J = rule-j
 ruleFrom K = rule-k
 
--- the rows of a table in which the first rule that matches holds
-abbrev pub rowsOf : Matches → List (Bool × Rule)
-rowsOf m =
-    (m .a, rule-a)
-    ∷ (m .b, rule-b)
-    ∷ (m .c, rule-c)
-    ∷ (m .d, rule-d)
-    ∷ (m .e, rule-e)
-    ∷ (m .f, rule-f)
-    ∷ (m .g, rule-g)
-    ∷ (m .h, rule-h)
-    ∷ (m .i, rule-i)
-    ∷ (m .j, rule-j)
-    ∷ []
+-- the rules after h: the first of i, j and k that matches
+abbrev pub rulePastH : ℕ → ℕ → Rule
+rulePastH l r =
+    cond (eqb l 27 && isIn r (9 ∷ 10 ∷ 11 ∷ 15 ∷ 16 ∷ 19 ∷ [])) rule-i
+    (cond (eqb r 27 && isIn l (4 ∷ 9 ∷ 10 ∷ 11 ∷ 15 ∷ 16 ∷ 19 ∷ [])) rule-j
+    rule-k)
 
 abbrev pub gapFrom : GapValue → Gap
 gapFrom g =

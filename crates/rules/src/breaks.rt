@@ -21,18 +21,22 @@ pub struct Gap {
     pub stretch2: u32,
 }
 
-// A line may not be broken between the two.
+// A line may not be broken between the two. The class on the right decides most often, so it is asked first.
 pub fn break_forbidden(l: Side, r: Side) -> bool
     ensures { λ b. ⌜ b ≡ forbidden (sideOf l) (sideOf r) ⌝ }
 {
     let left = l.class;
     let right = r.class;
-    let same_code = l.code == r.code;
-    between(2, 7, right)
-        | one_of3(right, 9, 10, 11)
-        | one_of2(left, 1, 12)
-        | ((left == 8) & (right == 8) & same_code)
-        | ((left == 27) & (right == 27))
+    // 2 to 7, 9, 10 and 11
+    if between(2, 11, right) {
+        if right != 8 {
+            return true;
+        }
+        if left == 8 {
+            return l.code == r.code;
+        }
+    }
+    one_of2(left, 1, 12) | ((left == 27) & (right == 27))
 }
 
 fn one_if(test: bool) -> u32
@@ -41,13 +45,15 @@ fn one_if(test: bool) -> u32
     if test { 1 } else { 0 }
 }
 
-// 1 where stretch stage 2 widens the gap: at a permitted break, with class 5 on neither side.
-fn weight_of(l: Side, r: Side) -> u32
+// 1 where stretch stage 2 widens the gap: at a permitted break, with class 5 on neither side. `tied` where the break
+// is forbidden.
+fn weight_of(l: Side, r: Side, tied: bool) -> u32
+    requires { ⌜ tied ≡ forbidden (sideOf l) (sideOf r) ⌝ }
     ensures { λ w. ⌜ w ≡ weightOf (sideOf l) (sideOf r) ⌝ }
 {
     let left = l.class;
     let right = r.class;
-    one_if(!break_forbidden(l, r) & (left != 5) & (right != 5))
+    one_if(!tied & (left != 5) & (right != 5))
 }
 
 // A space that no stage before stretch stage 2 changes.
@@ -150,10 +156,11 @@ fn rule_gap(rule: Rule, l: Side, r: Side, weight: u32) -> Gap
     }
 }
 
-// The gap between two units.
-pub fn gap_between(l: Side, r: Side) -> Gap
+// The gap between two units. `tied` where the break there is forbidden, which the caller asks for itself too.
+pub fn gap_between(l: Side, r: Side, tied: bool) -> Gap
+    requires { ⌜ tied ≡ forbidden (sideOf l) (sideOf r) ⌝ }
     ensures { λ g. ⌜ gapFrom g ≡ gapOf (sideOf l) (sideOf r) ⌝ }
 {
     let rule = rule_of(l.class, r.class);
-    rule_gap(rule, l, r, weight_of(l, r))
+    rule_gap(rule, l, r, weight_of(l, r, tied))
 }

@@ -152,9 +152,17 @@ pub fn record_ok(r: Record) -> bool
 {
     let c = class_row(r.class);
     let kind = c.kind;
-    code_ok(r.code)
-        & (c.row < 18)
-        & size_ok(r.size)
-        & advance_ok(kind, r.size, r.advance)
-        & group_ok(r.class, r.group, r.ruby)
+    if !code_ok(r.code) {
+        return false;
+    }
+    if 18 <= c.row {
+        return false;
+    }
+    if !size_ok(r.size) {
+        return false;
+    }
+    if !advance_ok(kind, r.size, r.advance) {
+        return false;
+    }
+    group_ok(r.class, r.group, r.ruby)
 }

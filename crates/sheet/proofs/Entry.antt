@@ -2,16 +2,16 @@
 -- Assumes nothing.
 use mathlib.Core.Path.{_≡_, refl, sym, ap, _∙_}
 use Prim.Native.Nat.{ℕ, zero, suc, _+_, _-_, _*_, _/_, _%_, _≤_, _<_}
-use native.Mathlib.Nat.{add-zero, add-sub-cancel-left}
+use native.Mathlib.Nat.{add-zero}
 use native.Mathlib.Omega.{arith}
-use mathlib.Core.Bool.{Bool, true, false, cond, not, _||_}
+use mathlib.Core.Bool.{Bool, true, false, cond, not, _||_, and-true, and-false}
 use mathlib.Core.List.{List, [], _∷_}
 use mathlib.Core.Logic.{inl, inr}
 use lib.Dec.{leb, ltb, eqb}
 use lib.ListN.{length, getD, take, drop, length-drop}
 use lib.Seq.{getD-take, getD-drop, take-take, drop-drop, length-take-le}
 use borrow.Rule.Slice.PartMut.{putMid}
-use borrow.Author.Tests.{ltb-false, le-ltb, leb-true, leb-false, le-leb, lt-leb}
+use borrow.Author.Tests.{ltb-false, lt-ltb, le-ltb, leb-true, leb-false, le-leb, lt-leb}
 use borrow.Author.Tests.{eqb-true, eqb-false, eq-eqb, ne-eqb, not-false}
 use Rattle.rules.specs.Basics.{within}
 use Rattle.rules.specs.Sheet.{clinicOf, lineCountOf, slotCount, lengthOk, slotAt, withSlot}
@@ -63,6 +63,20 @@ whole n e =
       some = leb-true 1 _ (and-left (leb 1 (n / 2824)) (leb (n / 2824) 64) w);
       few = leb-true _ 64 (and-right (leb 1 (n / 2824)) (leb (n / 2824) 64) w);
     }
+
+-- the limits of a length, in words
+pub too-short : (n : ℕ) → n < 2824 → false ≡ lengthOk n
+too-short n h = rw (lt-leb 1 (n / 2824) (omega arith), and-false)
+
+pub too-long : (n : ℕ) → 180736 < n → false ≡ lengthOk n
+too-long n h =
+    elim (tested (eqb (n % 2824) 0)) [
+      | inl e ↦ let d = eqb-true (n % 2824) 0 e in rw (e, lt-leb (n / 2824) 64 (omega arith), and-false)
+      | inr e ↦ rw e
+    ]
+
+pub within-limits : (n : ℕ) → 2824 ≤ n → n ≤ 180736 → eqb (n % 2824) 0 ≡ lengthOk n
+within-limits n a b = rw (le-leb 1 (n / 2824) (omega arith), le-leb (n / 2824) 64 (omega arith), and-true)
 
 -- what the rows 1 to 3 leave of a call on slot k
 pub record Entered (ws : List ℕ) (caller k : ℕ) : Type 0 where
@@ -176,6 +190,35 @@ module _ (ws : List ℕ) (caller k : ℕ) where
   unfolding readStart readLength
   read-opened z = let e = eq-eqb _ _ z in (rw e, rw (e, word-at ws k 4 (omega arith)))
 
+  -- by the line count
+  pub number-under : called ws caller k .number ≡ 0 → getD ws (2824 * k + 4) 0 ≤ 256 → readNumber ws caller k ≡ 0
+  number-under z h = rw (number-entered z, le-ltb _ _ h)
+
+  pub number-over : called ws caller k .number ≡ 0 → 256 < getD ws (2824 * k + 4) 0 → readNumber ws caller k ≡ 0 → ⊥
+  number-over z h e = let y : _≡_ {A = ℕ} 4 0 = rw (lt-ltb _ _ h) at (sym (number-entered z) ∙ e) in omega arith
+
+  -- the part that a read hands back lies within the sheet, and within any sheet's limits
+  pub record Fits : Type 0 where
+    pub inside : readStart ws caller k + readLength ws caller k ≤ length ws
+    pub small : readStart ws caller k + readLength ws caller k ≤ 180736
+
+  pub read-fits : Fits
+  read-fits =
+      elim (tested (eqb (readNumber ws caller k) 0)) [
+        | inl t ↦
+            let z = eqb-true (readNumber ws caller k) 0 t in
+            let r = readable z in
+            let o = read-opened z in
+            let e = r .entry in
+            record {
+              inside = omega (arith, o .0, o .1, r .few, e .whole .exact, e .within);
+              small = omega (arith, o .0, o .1, r .few, e .whole .few, e .within);
+            }
+        | inr t ↦
+            let o = read-refused (eqb-false (readNumber ws caller k) 0 t) in
+            record { inside = omega (arith, o .0, o .1); small = omega (arith, o .0, o .1) }
+      ]
+
   -- a part of the sheet that starts and is as long as a read says is what the read hands back
   pub record Part (part : List ℕ) (from : ℕ) : Type 0 where
     pub words : part ≡ readWords ws caller k
@@ -183,13 +226,12 @@ module _ (ws : List ℕ) (caller k : ℕ) where
     pub place : from ≡ readStart ws caller k
 
   pub part-is : (start n : ℕ) → start ≡ readStart ws caller k → n ≡ readLength ws caller k → start + n ≤ length ws →
-      Part (take (start + n - start) (drop start ws)) start
+      Part (take n (drop start ws)) start
   unfolding readWords
   part-is start n e f h =
-      let c : start + n - start ≡ n = add-sub-cancel-left start n in
       record {
-        words = rw (c, e, f);
-        count = rw c (length-take-le n (drop start ws) (rw length-drop (omega arith)) ∙ f);
+        words = rw (e, f);
+        count = length-take-le n (drop start ws) (rw length-drop (omega arith)) ∙ f;
         place = e;
       }
 

@@ -24,8 +24,14 @@ pub struct SlotNumber(pub u32);
 fn length_ok(len: usize) -> bool
     ensures { λ r. ⌜ r ≡ lengthOk len ⌝ }
 {
-    let slots = len / 2824;
-    (len % 2824 == 0) & ((1 <= slots) & (slots <= 64))
+    // the limits first: they leave a division of small numbers
+    if len < 2824 {
+        return false;
+    }
+    if 180736 < len {
+        return false;
+    }
+    len % 2824 == 0
 }
 
 // Answers 1, 2 and 3, with which every call on a slot begins, or 0. Of the slot it looks at the clinic alone.
@@ -91,6 +97,35 @@ pub fn read_number(sheet: &[u32], caller: Clinic, slot: SlotNumber) -> u32
     if 256 < sheet[head + 4] { 4 } else { 0 }
 }
 
+// A part of the sheet, in words.
+#[repr(C)]
+pub struct Part {
+    pub start: usize,
+    pub length: usize,
+}
+
+// Where a slot's used line words stand. Empty where the read is refused.
+pub fn read_part(sheet: &[u32], caller: Clinic, slot: SlotNumber) -> Part
+    ensures { λ r. ⌜ (r .start ≡ readStart (now (sheet .entry)) (caller .0) (slot .0))
+        × (r .length ≡ readLength (now (sheet .entry)) (caller .0) (slot .0)) ⌝ }
+{
+    let refusal = called(sheet, caller, slot);
+    if refusal.number == 0 {
+        let head = 2824 * slot.0 as usize;
+        let count = sheet[head + 4];
+        if count <= 256 {
+            return Part {
+                start: head + 2056,
+                length: 3 * count as usize,
+            };
+        }
+    }
+    Part {
+        start: 0,
+        length: 0,
+    }
+}
+
 // A slot's used line words, as the very part of the sheet that they are. Empty where the read is refused.
 pub fn read(sheet: &[u32], caller: Clinic, slot: SlotNumber) -> &[u32]
     ensures words { λ r. ⌜ now r ≡ readWords (now (sheet .entry)) (caller .0) (slot .0) ⌝ }
@@ -98,11 +133,8 @@ pub fn read(sheet: &[u32], caller: Clinic, slot: SlotNumber) -> &[u32]
     ensures place { λ r. ⌜ (r .ptr .0 ≡ sheet .entry .ptr .0)
         × (r .ptr .1 ≡ sheet .entry .ptr .1 + 4 * readStart (now (sheet .entry)) (caller .0) (slot .0)) ⌝ }
 {
-    if read_number(sheet, caller, slot) != 0 {
-        return &sheet[0..0];
-    }
-    let head = 2824 * slot.0 as usize;
-    let count = 3 * sheet[head + 4] as usize;
-    let first = head + 2056;
-    &sheet[first..first + count]
+    let part = read_part(sheet, caller, slot);
+    let start = part.start;
+    let end = start + part.length;
+    &sheet[start..end]
 }

@@ -1,10 +1,10 @@
--- `compose::first_wide_run` meets its contract: the runs passed fit the measure. Assumes nothing.
+-- `compose::breaking::first_wide_run` meets its contract: every row fits, or the runs passed do. Assumes nothing.
 use Prim.Native.Nat.{_-_}
 use native.Mathlib.Omega.{arith}
 use denote.Ref.{now}
 use borrow.Author.Needs.{needs}
 use Rattle.compose.proofs.RunRows.{RowFacts, row-facts}
-use Rattle.compose.proofs.Filling.{Narrow, narrow-start, narrow-end, narrow-wide, narrow-more}
+use Rattle.compose.proofs.Filling.{Narrow, narrow-start, narrow-end, narrow-wide, narrow-more, all-fit}
 use Rattle.compose.proofs.breaking.first_wide_run.Statement.{statement}
 use Rattle.compose.proofs.breaking.first_wide_run.Tie as tie
 
@@ -16,11 +16,19 @@ abbrev μ-loop : tie.MeasureT-loop
 
 -- the row of the run that starts with record i
 row : (c : tie.In-loop Inv-loop μ-loop) →
-    let s = c .before .before in
+    let s = c .before .before .before .before .before in
     RowFacts (now (s .args .ws)) (now (s .args .runs)) (c .before .loop .i)
 row c =
-    let s = c .before .before in
+    let s = c .before .before .before .before .before in
     row-facts (now (s .args .runs)) (s .pre .0) (s .pre .1) (c .before .loop .i) (c .loop-test .taken)
+
+all-narrow-requires : tie.Need-all-narrow-requires Inv-loop μ-loop
+all-narrow-requires c κs = c .before .pre .0 .few
+
+returns : tie.Need-returns Inv-loop μ-loop
+returns c =
+    let s = c .before .before .before in
+    all-fit (now (s .args .runs)) (s .pre .0) (s .pre .1) (c .before .all-narrow .ensures (c .if1 .taken))
 
 loop-holds : tie.Need-loop-holds Inv-loop μ-loop
 loop-holds c = narrow-start
@@ -28,19 +36,19 @@ loop-holds c = narrow-start
 mul-a : tie.Need-mul-a Inv-loop μ-loop
 mul-a c = search needs
 
-mul-if1 : tie.Need-mul-if1 Inv-loop μ-loop
-mul-if1 c = search needs
+mul-if2 : tie.Need-mul-if2 Inv-loop μ-loop
+mul-if2 c = search needs
 
-element-copy-out-if1 : tie.Need-element-copy-out-if1 Inv-loop μ-loop
-element-copy-out-if1 c = search needs
+element-copy-out-if2 : tie.Need-element-copy-out-if2 Inv-loop μ-loop
+element-copy-out-if2 c = search needs
 
-add-if1 : tie.Need-add-if1 Inv-loop μ-loop
-add-if1 c = omega (arith, row (c .before))
+add-if2 : tie.Need-add-if2 Inv-loop μ-loop
+add-if2 c = omega (arith, row (c .before))
 
-returns : tie.Need-returns Inv-loop μ-loop
-returns c =
+returns-2 : tie.Need-returns-2 Inv-loop μ-loop
+returns-2 c =
     let d = c .before .before in
-    narrow-wide (row d) (d .before .loop .inv) (c .if1 .taken)
+    narrow-wide (row d) (d .before .loop .inv) (c .if2 .taken)
 
 add-i : tie.Need-add-i Inv-loop μ-loop
 add-i c = search needs
@@ -63,10 +71,10 @@ loop-less c = omega (arith, row (c .before .before .before))
 loop-again : tie.Need-loop-again Inv-loop μ-loop
 loop-again c =
     let d = c .before .before .before in
-    narrow-more (row d) (d .before .loop .inv) (c .before .if1 .left)
+    narrow-more (row d) (d .before .loop .inv) (c .before .if2 .left)
 
-returns-2 : tie.Need-returns-2 Inv-loop μ-loop
-returns-2 c = narrow-end (c .loop-test .left) (c .before .loop .inv)
+returns-3 : tie.Need-returns-3 Inv-loop μ-loop
+returns-3 c = narrow-end (c .loop-test .left) (c .before .loop .inv)
 
 pub first-wide-run-spec : {M : Type 1} → statement M
 first-wide-run-spec =
@@ -74,12 +82,14 @@ first-wide-run-spec =
     (tie.spec
     Inv-loop
     μ-loop
+    all-narrow-requires
+    returns
     loop-holds
     mul-a
-    mul-if1
-    element-copy-out-if1
-    add-if1
-    returns
+    mul-if2
+    element-copy-out-if2
+    add-if2
+    returns-2
     add-i
     mul-i
     element-copy-out-i
@@ -87,4 +97,4 @@ first-wide-run-spec =
     add-i-2
     loop-less
     loop-again
-    returns-2)
+    returns-3)

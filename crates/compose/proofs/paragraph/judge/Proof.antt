@@ -14,9 +14,12 @@ use Rattle.compose.proofs.checks.first_group_fault.Reads as first-group
 use Rattle.compose.proofs.paragraph.fill_tables.Reads as fill-tables-reads
 use Rattle.compose.proofs.paragraph.says.Reads as says-reads
 
--- src/paragraph.rt:53:9
--- src/paragraph.rt:55:9
--- src/paragraph.rt:55:9
+first-bad-record-requires : tie.Need-first-bad-record-requires
+first-bad-record-requires c κs = search needs
+
+says-requires : tie.Need-says-requires
+says-requires c κs = search needs
+
 -- past answers 8 and 9 the paragraph is checked
 checked : (c : tie.Else2) → Checked (now (c .before .before .before .before .before .args .ws))
 checked c =
@@ -36,9 +39,12 @@ returns c =
     refusal (now (s .args .ws)) _ _ _ _ _ 8 (k .result) _ _ (c .says .ensures) (λ z. omega arith)
     (judged-8 _ _ _ _ (named (size (now (s .args .ws))) (k .result) _ (k .ensures) (c .before .if1 .taken)))
 
--- src/paragraph.rt:57:9
--- src/paragraph.rt:59:9
--- src/paragraph.rt:59:9
+first-group-fault-requires : tie.Need-first-group-fault-requires
+first-group-fault-requires c κs = search needs
+
+says-requires-2 : tie.Need-says-requires-2
+says-requires-2 c κs = search needs
+
 returns-2 : tie.Need-returns-2
 returns-2 c =
     let s = c .before .before .before .before .before .before in
@@ -49,11 +55,9 @@ returns-2 c =
     (judged-9 _ _ _ _ (no-8 ws (k .result) (c .before .before .before .if1 .left) (k .ensures))
     (named (size ws) (g .result) _ (g .ensures) (c .before .if2 .taken)))
 
--- src/paragraph.rt:61:5
 fill-tables-requires : tie.Need-fill-tables-requires
 fill-tables-requires c κs = checked (c .before .before .before)
 
--- src/paragraph.rt:62:9
 first-wide-run-requires : tie.Need-first-wide-run-requires
 first-wide-run-requires c κs = (
   checked (c .before .before .before .before .before),
@@ -61,8 +65,9 @@ first-wide-run-requires c κs = (
   c .before .before .before .before .before .before .before .before .before .before .pre .indent,
 )
 
--- src/paragraph.rt:64:9
--- src/paragraph.rt:64:9
+says-requires-3 : tie.Need-says-requires-3
+says-requires-3 c κs = search needs
+
 returns-3 : tie.Need-returns-3
 returns-3 c =
     let s = c .before .before .before .before .before .before .before .before .before .before .before .before .before in
@@ -72,8 +77,9 @@ returns-3 c =
     refusal ws _ _ _ _ _ 10 (k .result) _ _ (c .says3 .ensures) (λ z. omega arith)
     (judged-10 _ _ _ _ (h .sound) (h .grouped) (named (size ws) (k .result) _ (k .ensures) (c .before .if3 .taken)))
 
--- src/paragraph.rt:66:5
--- src/paragraph.rt:41:1
+says-requires-4 : tie.Need-says-requires-4
+says-requires-4 c κs = search needs
+
 returns-4 : tie.Need-returns-4
 returns-4 c =
     let s = c .before .before .before .before .before .before .before .before .before .before .before .before .before in
@@ -89,15 +95,15 @@ pub judge-spec : {M : Type 1} → statement M
 judge-spec =
     tie.close
     (tie.spec
-    (λ c κs. search needs)
-    (λ c κs. search needs)
+    first-bad-record-requires
+    says-requires
     returns
-    (λ c κs. search needs)
-    (λ c κs. search needs)
+    first-group-fault-requires
+    says-requires-2
     returns-2
     fill-tables-requires
     first-wide-run-requires
-    (λ c κs. search needs)
+    says-requires-3
     returns-3
-    (λ c κs. search needs)
+    says-requires-4
     returns-4)

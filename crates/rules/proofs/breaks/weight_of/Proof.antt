@@ -6,7 +6,7 @@ use Rattle.rules.proofs.breaks.weight_of.Tie as tie
 
 returns : tie.Need-returns
 unfolding weight
-returns c = rw (c .one-if .ensures, c .before .break-forbidden .ensures)
+returns c = rw (c .one-if .ensures, c .before .pre)
 
 pub weight-of-spec : {M : Type 1} → statement M
-weight-of-spec = tie.close (tie.spec (λ c κs. search needs) (λ c κs. search needs) returns)
+weight-of-spec = tie.close (tie.spec (λ c κs. search needs) returns)

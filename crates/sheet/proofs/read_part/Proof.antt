@@ -1,0 +1,44 @@
+-- `sheet::read_part` meets its contract. Assumes nothing.
+use mathlib.Core.Path.{_≡_, ap, sym, _∙_}
+use native.Mathlib.Omega.{arith}
+use borrow.Author.Needs.{needs}
+use denote.Ref.{now}
+use Rattle.rules.specs.Refusals.{called}
+use Rattle.sheet.proofs.Entry.{entered, number-under, number-over, number-called, read-refused, read-opened}
+use Rattle.sheet.proofs.read_part.Statement.{statement}
+use Rattle.sheet.proofs.read_part.Tie as tie
+
+-- where the rows 1 to 3 do not apply
+zero : (c : tie.Then1) → let a = c .before .before .before .before .args in
+    called (now (a .sheet)) (a .caller .0) (a .slot .0) .number ≡ 0
+zero c = ap (λ a. a .number) (sym (c .before .before .called .ensures)) ∙ c .if1 .taken
+
+shared-slice-read-count : tie.Need-shared-slice-read-count
+shared-slice-read-count c = let e = entered _ _ _ (zero (c .before .before)) in omega arith
+
+returns : tie.Need-returns
+returns c =
+    let r = read-opened _ _ _ (number-under _ _ _ (zero (c .before .before .before)) (c .if2 .taken)) in
+    (sym (r .0), sym (r .1))
+
+returns-2 : tie.Need-returns-2
+returns-2 c =
+    let r = read-refused _ _ _ (number-over _ _ _ (zero (c .before .before .before)) (c .if2 .left)) in
+    (sym (r .0), sym (r .1))
+
+returns-3 : tie.Need-returns-3
+returns-3 c =
+    let n = ap (λ a. a .number) (c .before .before .called .ensures) in
+    let r = read-refused _ _ _ (λ z. c .if1 .left (n ∙ number-called _ _ _ z)) in
+    (sym (r .0), sym (r .1))
+
+pub read-part-spec : {M : Type 1} → statement M
+read-part-spec =
+    tie.close
+    (tie.spec
+    (λ c κs. search needs) (λ c. search needs) (λ c. search needs) (λ c. search needs) (λ c. search needs)
+    shared-slice-read-count
+    (λ c. search needs) (λ c. search needs) (λ c. search needs)
+    returns
+    returns-2
+    returns-3)
