@@ -76,6 +76,24 @@ module _ (cs ms xs : List ℕ) where
   unfolding freshSlots
   write-none old = record { within = omega arith; same = refl; now = refl }
 
+  -- slot k is zeros yet, where the sheet was
+  pub zeros-yet : {old sheet : List ℕ} {k : ℕ} → Written old sheet k → old ≡ zeros (2824 * length cs) → k < length cs →
+      take (2824 * k + 2824 - 2824 * k) (drop (2824 * k) sheet) ≡ zeros 2824
+  zeros-yet {old} {sheet} {k} w e h =
+      let n : 2824 * k + 2824 - 2824 * k ≡ 2824 = omega arith in
+      let r : ℕ = 2824 * (length cs - k - 1) in
+      let m : 2824 * length cs ≡ 2824 * k + (2824 + r) = omega arith in
+      let F : List ℕ = freshSlots 0 cs ms xs k in
+      let split : old ≡ zeros (2824 * k) ++ (zeros 2824 ++ zeros r) = e ∙ rw (m, zeros-append, zeros-append) in
+      rw (
+        n,
+        w .now,
+        drop-at F (drop (2824 * k) old) (2824 * k) (length-fresh-slots 0 k),
+        split,
+        drop-at (zeros (2824 * k)) (zeros 2824 ++ zeros r) (2824 * k) (length-zeros (2824 * k)),
+        take-at (zeros 2824) (zeros r) 2824 (length-zeros 2824),
+      )
+
   pub write-more : {old sheet last : List ℕ} {k : ℕ} → Written old sheet k → k < length cs →
       length last ≡ length (take (2824 * k + 2824 - 2824 * k) (drop (2824 * k) sheet)) →
       last ≡ fresh (getD cs k 0) (getD ms k 0) (getD xs k 0) →

@@ -69,21 +69,22 @@ fn clear(words: &mut [u32])
     }
 }
 
-// Writes a fresh slot.
+// Makes a slot of zeros a fresh slot.
 fn write_fresh(words: &mut [u32], clinic: u32, measure: u32, indent: u32)
     requires { ⌜ length (now words) ≡ 2824 ⌝ }
+    requires { ⌜ now words ≡ zeros 2824 ⌝ }
     ensures { λ _. ⌜ now (words .exit) ≡ fresh clinic measure indent ⌝ }
 {
-    clear(words);
     words[0] = clinic;
     words[1] = measure;
     words[2] = indent;
 }
 
-// Writes a fresh slot for each clinic.
-fn write_slots(sheet: &mut [u32], clinics: &[u32], measures: &[u32], indents: &[u32])
+// Writes a fresh slot for each clinic, over zeros.
+fn write_each(sheet: &mut [u32], clinics: &[u32], measures: &[u32], indents: &[u32])
     requires { ⌜ Matched (now clinics) (now measures) (now indents) ⌝ }
     requires { ⌜ length (now sheet) ≡ 2824 * length (now clinics) ⌝ }
+    requires { ⌜ now sheet ≡ zeros (2824 * length (now clinics)) ⌝ }
     ensures { λ _. ⌜ now (sheet .exit)
         ≡ allFresh (now (clinics .entry)) (now (measures .entry)) (now (indents .entry)) ⌝ }
 {
@@ -94,6 +95,17 @@ fn write_slots(sheet: &mut [u32], clinics: &[u32], measures: &[u32], indents: &[
         write_fresh(&mut sheet[start..end], clinics[k], measures[k], indents[k]);
         k += 1;
     }
+}
+
+// Writes a fresh slot for each clinic. All words are cleared at once, which is quicker than slot by slot.
+fn write_slots(sheet: &mut [u32], clinics: &[u32], measures: &[u32], indents: &[u32])
+    requires { ⌜ Matched (now clinics) (now measures) (now indents) ⌝ }
+    requires { ⌜ length (now sheet) ≡ 2824 * length (now clinics) ⌝ }
+    ensures { λ _. ⌜ now (sheet .exit)
+        ≡ allFresh (now (clinics .entry)) (now (measures .entry)) (now (indents .entry)) ⌝ }
+{
+    clear(sheet);
+    write_each(sheet, clinics, measures, indents);
 }
 
 // Empties every slot, and gives each its clinic, measure and indent.

@@ -1,7 +1,7 @@
 -- A slot's stored records, and whether they are sound. Assumes nothing.
 use mathlib.Core.Path.{_≡_, refl, sym, ap, _∙_}
 use mathlib.Core.List.{List}
-use mathlib.Core.Bool.{Bool, true, false, _&&_}
+use mathlib.Core.Bool.{Bool, true, false, cond, _&&_}
 use Prim.Native.Nat.{ℕ, _+_, _-_, _*_, _/_, _≤_, _<_}
 use native.Mathlib.Omega.{arith}
 use lib.Dec.{leb, ltb, eqb}
@@ -82,3 +82,12 @@ module _ (s : List ℕ) where
   sound-count e =
       leb-true (countOf s) 256 (and-right (limitsOk (measureOf s) (indentOf s)) (leb (countOf s) 256)
       (and-left (limitsOk (measureOf s) (indentOf s) && leb (countOf s) 256) _ e))
+
+-- the number of answer 4, or 0, by whether the slot is sound
+pub stored-0 : (b : Bool) {n : ℕ} → n ≡ cond b 0 4 → n ≡ 0 → b ≡ true
+stored-0 true e z = refl
+stored-0 false e z = let y : ⊥ = omega arith in absurd y
+
+pub stored-4 : (b : Bool) {n : ℕ} → n ≡ cond b 0 4 → (n ≡ 0 → ⊥) → (n ≡ 4) × (b ≡ false)
+stored-4 true e z = absurd (z e)
+stored-4 false e z = (e, refl)

@@ -1,5 +1,6 @@
 // An edit of one slot: answers 4 to 10, and every word of the slot written where it is accepted.
 ghost use mathlib.Core.Path.{_≡_};
+ghost use mathlib.Core.Bool.{cond};
 ghost use Prim.Native.Nat.{_+_, _-_, _*_, _≤_};
 ghost use lib.ListN.{length, take, drop};
 ghost use Rattle.rules.specs.Basics.{zeros};
@@ -47,6 +48,17 @@ fn is_sound(words: &[u32]) -> bool
     check(&words[8..end], m, x)
 }
 
+// 4 where answer 4 applies to a slot, or 0.
+fn stored_answer(words: &[u32]) -> u32
+    requires { ⌜ length (now words) ≡ 2824 ⌝ }
+    ensures { λ n. ⌜ n ≡ cond (sound (now (words .entry))) 0 4 ⌝ }
+{
+    if !is_sound(words) {
+        return 4;
+    }
+    0
+}
+
 // Composes the first `total` words of `list` as the slot's records and, where they are accepted, writes the slot.
 fn replace(words: &mut [u32], list: &[u32], total: usize) -> Answer
     requires { ⌜ Replaceable (now words) (now list) total ⌝ }
@@ -71,8 +83,9 @@ pub fn edit_slot(words: &mut [u32], place: u32, deleted: u32, inserted: &[u32]) 
     ensures { λ r. ⌜ (says (r .number) (r .place), now (words .exit)) ≡
         editSlot (now (words .entry)) place deleted (now (inserted .entry)) ⌝ }
 {
-    if !is_sound(words) {
-        return refusal(4, 0);
+    let stored = stored_answer(words);
+    if stored != 0 {
+        return refusal(stored, 0);
     }
     let count = words[3];
     if count < place {

@@ -49,13 +49,16 @@ impl Cell {
     }
 }
 
-/// Times every cell once in each round.
+/// Times every cell once in each round, forwards and backwards in turn, so that no cell always runs in the caches that
+/// the same neighbour left.
 pub fn time(cells: &mut [Cell]) {
     let calls: Vec<u32> = cells.iter_mut().map(Cell::calls_per_slice).collect();
+    let mut order: Vec<usize> = (0..cells.len()).collect();
     for _ in 0..ROUNDS {
-        for (cell, &calls) in cells.iter_mut().zip(&calls) {
-            let per_call = cell.run(calls).as_nanos() as f64 / f64::from(calls);
-            cell.nanoseconds.push(per_call);
+        for &i in &order {
+            let per_call = cells[i].run(calls[i]).as_nanos() as f64 / f64::from(calls[i]);
+            cells[i].nanoseconds.push(per_call);
         }
+        order.reverse();
     }
 }

@@ -5,12 +5,11 @@ use mathlib.Core.Bool.{true}
 use Prim.Native.Nat.{_+_, _≤_}
 use native.Mathlib.Omega.{arith}
 use denote.Ref.{now}
-use borrow.Author.Tests.{not-true, not-false}
 use Rattle.rules.specs.Basics.{zeros}
 use Rattle.rules.specs.Sheet.{countOf}
 use Rattle.rules.specs.Refusals.{sound}
 use Rattle.slot.specs.Slot.{replaced}
-use Rattle.slot.proofs.Stored.{sound-limits, sound-count}
+use Rattle.slot.proofs.Stored.{sound-limits, sound-count, stored-0, stored-4}
 use Rattle.slot.proofs.Outcomes.{answers, refuses-4, refuses-5, refuses-5-end, refuses-6, refuses-7, replaces}
 use Rattle.slot.proofs.Edited.{NewList, new-list}
 use borrow.Author.Needs.{needs}
@@ -29,7 +28,7 @@ spliced c = past-5 (c .before .before .before .before .before .before)
 
 -- past answer 4 the slot is sound
 is-sound-at : (c : tie.Else1) → sound (now (past-4 c .args .words)) ≡ true
-is-sound-at c = sym (c .before .is-sound .ensures) ∙ not-false _ (c .if1 .left)
+is-sound-at c = stored-0 _ (c .before .stored-answer .ensures) (c .if1 .left)
 
 few-at : (c : tie.Else1) → countOf (now (past-4 c .args .words)) ≤ 256
 few-at c = sound-count (now (past-4 c .args .words)) (is-sound-at c)
@@ -55,9 +54,9 @@ new-list-at c = new-list _ _ _ _ _ _ _ _ _ _ (c .splice .ensures)
 returns : tie.Need-returns
 returns c =
     let a = c .before .before .before .before .before .before .args in
-    answers 4 0 _ _ (now (a .words)) _ (c .refusal .ensures)
-    (refuses-4 (now (a .words)) (a .place) (a .deleted) (now (a .inserted))
-    (sym (c .before .before .is-sound .ensures) ∙ not-true _ (c .before .if1 .taken)))
+    let e = stored-4 _ (c .before .before .stored-answer .ensures) (c .before .if1 .taken) in
+    answers 4 0 _ _ (now (a .words)) _ (c .refusal .ensures .0 ∙ e .0, c .refusal .ensures .1)
+    (refuses-4 (now (a .words)) (a .place) (a .deleted) (now (a .inserted)) (e .1))
 
 returns-2 : tie.Need-returns-2
 returns-2 c =
