@@ -78,6 +78,13 @@ too-long n h =
 pub within-limits : (n : ℕ) → 2824 ≤ n → n ≤ 180736 → eqb (n % 2824) 0 ≡ lengthOk n
 within-limits n a b = rw (le-leb 1 (n / 2824) (omega arith), le-leb (n / 2824) 64 (omega arith), and-true)
 
+-- a slot number is compared by where its slot would start
+pub past-the-last : (n k : ℕ) → lengthOk n ≡ true → n ≤ 2824 * k → n / 2824 ≤ k
+past-the-last n k e h = omega (arith, whole n e .exact)
+
+pub a-slot : (n k : ℕ) → lengthOk n ≡ true → 2824 * k < n → k < n / 2824
+a-slot n k e h = omega (arith, whole n e .exact)
+
 -- what the rows 1 to 3 leave of a call on slot k
 pub record Entered (ws : List ℕ) (caller k : ℕ) : Type 0 where
   pub whole : Whole (length ws)

@@ -45,14 +45,14 @@ fn called(sheet: &[u32], caller: Clinic, slot: SlotNumber) -> Answer
             place: 0,
         };
     }
-    let k = slot.0 as usize;
-    if len / 2824 <= k {
+    let first = 2824 * slot.0 as usize;
+    if len <= first {
         return Answer {
             number: 2,
             place: 0,
         };
     }
-    if (caller.0 == 0) | (caller.0 != sheet[2824 * k]) {
+    if (caller.0 == 0) | (caller.0 != sheet[first]) {
         return Answer {
             number: 3,
             place: 0,
