@@ -45,8 +45,8 @@ typedef struct SlotNumber { uint32_t number; } SlotNumber; /* from 0 */
 typedef struct Answer { uint32_t number, place; } Answer;
 typedef struct RubyPlace { uint32_t number, offset; } RubyPlace;
 
-/* A part of the sheet, in words; 0, 0 where the read is refused. */
-typedef struct Part { size_t start, length; } Part;
+/* A part of the sheet: the words from start up to end; 0, 0 where the read is refused. */
+typedef struct Part { size_t start, end; } Part;
 
 /* Empties every slot and gives slot i clinics[i], measures[i], indents[i]. */
 Answer gelumbrio_set_up(uint32_t *sheet, size_t sheet_length, const uint32_t *clinics, size_t clinics_length,

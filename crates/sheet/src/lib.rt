@@ -97,33 +97,32 @@ pub fn read_number(sheet: &[u32], caller: Clinic, slot: SlotNumber) -> u32
     if 256 < sheet[head + 4] { 4 } else { 0 }
 }
 
-// A part of the sheet, in words.
+// A part of the sheet: the words from `start` up to `end`.
 #[repr(C)]
 pub struct Part {
     pub start: usize,
-    pub length: usize,
+    pub end: usize,
 }
 
 // Where a slot's used line words stand. Empty where the read is refused.
 pub fn read_part(sheet: &[u32], caller: Clinic, slot: SlotNumber) -> Part
     ensures { λ r. ⌜ (r .start ≡ readStart (now (sheet .entry)) (caller .0) (slot .0))
-        × (r .length ≡ readLength (now (sheet .entry)) (caller .0) (slot .0)) ⌝ }
+        × (r .end ≡ readStart (now (sheet .entry)) (caller .0) (slot .0)
+        + readLength (now (sheet .entry)) (caller .0) (slot .0)) ⌝ }
 {
     let refusal = called(sheet, caller, slot);
     if refusal.number == 0 {
         let head = 2824 * slot.0 as usize;
         let count = sheet[head + 4];
         if count <= 256 {
+            let first = head + 2056;
             return Part {
-                start: head + 2056,
-                length: 3 * count as usize,
+                start: first,
+                end: first + 3 * count as usize,
             };
         }
     }
-    Part {
-        start: 0,
-        length: 0,
-    }
+    Part { start: 0, end: 0 }
 }
 
 // A slot's used line words, as the very part of the sheet that they are. Empty where the read is refused.
@@ -135,6 +134,6 @@ pub fn read(sheet: &[u32], caller: Clinic, slot: SlotNumber) -> &[u32]
 {
     let part = read_part(sheet, caller, slot);
     let start = part.start;
-    let end = start + part.length;
+    let end = part.end;
     &sheet[start..end]
 }

@@ -37,11 +37,11 @@ pub struct RubyPlace {
     pub offset: u32,
 }
 
-/// A part of the sheet, in words.
+/// A part of the sheet: the words from `start` up to `end`.
 #[repr(C)]
 struct Part {
     start: usize,
-    length: usize,
+    end: usize,
 }
 
 extern "C" {
@@ -128,7 +128,7 @@ pub fn read_number(sheet: &[u32], caller: Clinic, slot: SlotNumber) -> u32 {
 pub fn read(sheet: &[u32], caller: Clinic, slot: SlotNumber) -> Range<usize> {
     // SAFETY: the pointer and length are of a live slice, which the library only reads.
     let part = unsafe { gelumbrio_read(sheet.as_ptr(), sheet.len(), caller, slot) };
-    part.start..part.start.saturating_add(part.length)
+    part.start..part.end
 }
 
 /// Ruby place: the offset of the k-th ruby character from the start of its group.
