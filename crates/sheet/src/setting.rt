@@ -97,7 +97,7 @@ fn write_each(sheet: &mut [u32], clinics: &[u32], measures: &[u32], indents: &[u
     }
 }
 
-// Writes a fresh slot for each clinic. All words are cleared at once, which is quicker than slot by slot.
+// Writes a fresh slot for each clinic: all words are cleared at once, then each head is written.
 fn write_slots(sheet: &mut [u32], clinics: &[u32], measures: &[u32], indents: &[u32])
     requires { ⌜ Matched (now clinics) (now measures) (now indents) ⌝ }
     requires { ⌜ length (now sheet) ≡ 2824 * length (now clinics) ⌝ }
