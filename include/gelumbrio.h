@@ -7,8 +7,8 @@
  *   256 lines of 3 words: first record, end x, kind (1 flush, 2 short, 3 final).
  *
  * Every call takes any words, numbers and lengths, and ends. A refused call changes no word of the sheet. Each slice
- * passes as a pointer, then its length in words; the sheet overlaps no other slice of its call, and nobody else writes to
- * it meanwhile. Link with libgelumbrio.a (`rt staticlib gelumbrio`).
+ * passes as a pointer, then its length in words; the sheet overlaps no other slice of its call, and nobody else writes
+ * to it meanwhile. Link with libgelumbrio.a (`rt staticlib gelumbrio`).
  */
 #ifndef GELUMBRIO_H
 #define GELUMBRIO_H
@@ -39,7 +39,7 @@ typedef struct SlotNumber { uint32_t number; } SlotNumber; /* from 0 */
  *   7  more than 256 records would result                             0
  *   8  a resulting record breaks its own rules                        the first such record
  *   9  a group rule is broken                                         the first such record
- *  10  no breaking exists                                             the first record of the first run that is too wide
+ *  10  no breaking exists                                             the first record of the first too wide run
  *  11  set-up: a clinic, measure or indent out of limits              the first such slot
  * Read's number is 0, 1, 2 or 3, then 4 where the stored line count exceeds 256. Ruby place's is 0 or 8. */
 typedef struct Answer { uint32_t number, place; } Answer;

@@ -8,6 +8,8 @@ use std::path::{Path, PathBuf};
 use std::process::Command;
 
 const NAMED: &str = "GELUMBRIO_STATICLIB";
+/// In bytes.
+const CACHE_LINE: u32 = 64;
 
 fn main() {
     println!("cargo:rerun-if-changed=build.rs");
@@ -58,12 +60,26 @@ fn built_library(root: &Path) -> PathBuf {
 /// Links a copy under the name that the linker looks for, whatever the file is called.
 fn link(library: &Path) {
     let folder = PathBuf::from(env::var_os("OUT_DIR").expect("cargo sets OUT_DIR"));
-    if let Err(error) = std::fs::copy(library, folder.join("libgelumbrio.a")) {
+    let copy = folder.join("libgelumbrio.a");
+    if let Err(error) = std::fs::copy(library, &copy) {
         fail(&format!("{} could not be copied: {error}.", library.display()));
     }
-    println!("cargo:rustc-env=GELUMBRIO_LIBRARY={}", folder.join("libgelumbrio.a").display());
+    align(&copy);
+    println!("cargo:rustc-env=GELUMBRIO_LIBRARY={}", copy.display());
     println!("cargo:rustc-link-search=native={}", folder.display());
     println!("cargo:rustc-link-lib=static=gelumbrio");
+}
+
+/// Has each call start on a cache line, whatever stands before it. A short one may otherwise lie
+/// across a line more than it needs, which costs a read a tenth of its time. The library serves as
+/// it is where there is no objcopy.
+fn align(library: &Path) {
+    let calls = ["set_up", "edit", "read_number", "read", "ruby_place"];
+    let sections = calls.map(|call| format!("--set-section-alignment=.text.gelumbrio_{call}={CACHE_LINE}"));
+    match Command::new("objcopy").args(sections).arg(library).status() {
+        Ok(status) if status.success() => {}
+        _ => println!("cargo:warning=objcopy could not align the calls; they are linked as they are"),
+    }
 }
 
 fn fail(what: &str) -> ! {

@@ -66,7 +66,8 @@ unfolding runs joined counts
 wide-within m x j rs e =
     let w = place-of-10 m x (units rs) j e in
     let a : joined (w .before) ++ joined (w .run ∷ w .after) ≡ units rs =
-    sym (joined-append (w .before) (w .run ∷ w .after)) ∙ ap (λ ls. joined ls) (w .all) ∙ cut-joined bound (units rs) in
+    sym (joined-append (w .before) (w .run ∷ w .after))
+    ∙ ap (λ ls. joined ls) (w .all) ∙ cut-joined bound (units rs) in
     let n : counts (joined (w .before)) + counts (joined (w .run ∷ w .after)) ≡ length rs =
     sym (counts-append (joined (w .before)) (joined (w .run ∷ w .after))) ∙ ap (λ us. counts us) a ∙ counts-units rs in
     omega (arith, n, w .place)

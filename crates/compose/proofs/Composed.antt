@@ -11,7 +11,7 @@ use Rattle.rules.specs.Values.{gapFrom}
 use Rattle.rules.proofs.Ends.{taken}
 use Rattle.compose.specs.Lines.{lineAt}
 use Rattle.compose.specs.Adjusted.{SumsOf, LineToPlace, LinePlaced, LineToCompose, LineComposed}
-use Rattle.compose.specs.declared.places.Sums.{Sums}
+use Rattle.compose.specs.declared.adjustment.Sums.{Sums}
 
 at-most : (b : Bool) (n : ℕ) → cond b 0 n ≤ n
 at-most true n = omega arith

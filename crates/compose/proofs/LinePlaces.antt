@@ -134,7 +134,8 @@ module _ {ws us gs places₀ : List ℕ} {i j line x : ℕ} {e : Amounts} {c : G
         unfolding totals
         gaps-here =
             let u = totals (unitAt ws (nextAt ws a)) (lineAt ws (nextAt ws a) j .rest) in
-            ap (λ v. plus v u) b ∙ plus-assoc s g u ∙ ap (λ v. plus s (plus v u)) gap-here ∙ (rw rest-here at (q .gaps))
+            ap (λ v. plus v u) b ∙ plus-assoc s g u
+            ∙ ap (λ v. plus s (plus v u)) gap-here ∙ (rw rest-here at (q .gaps))
 
         pub turn-sums : Within 1024000 s × Within 4000 g
         turn-sums =

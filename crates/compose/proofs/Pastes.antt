@@ -22,7 +22,8 @@ pub paste-length : {d ps left qs : List ℕ} {off m : ℕ} → Pasting d off ps 
 paste-length {d} {ps} {left} {qs} {off} {m} p h = ap length (p .is) ∙ length-paste d off ps m h (p .short)
 
 -- n words more, from where the last ones end
-pub paste-more : {d ps qs rs : List ℕ} {off m : ℕ} (ws left : List ℕ) (n i k : ℕ) → Pasting d off ps m (ws ++ left) qs →
+pub paste-more : {d ps qs rs : List ℕ} {off m : ℕ} (ws left : List ℕ) (n i k : ℕ) →
+    Pasting d off ps m (ws ++ left) qs →
     length ws ≡ n → i ≡ off + m → k ≡ m + n → off ≤ length d → rs ≡ paste qs i ws n → Pasting d off ps k left rs
 paste-more {d} {ps} {qs} {rs} {off} {m} ws left n i k p e f g h s =
     let here : take i qs ≡ take off d ++ take m ps = rw (f, p .is) (take-paste d off ps m h (p .short)) in

@@ -15,7 +15,7 @@ use Rattle.compose.specs.Paragraph.{size, unitAt, nextAt}
 use Rattle.compose.specs.Tables.{gapIn}
 use Rattle.compose.specs.Lines.{lineAt, Tabled}
 use Rattle.compose.specs.Adjusted.{gapsOf, LineToSum, SumsOf, Within, PartOf}
-use Rattle.compose.specs.declared.places.Sums.{Sums}
+use Rattle.compose.specs.declared.adjustment.Sums.{Sums}
 use Rattle.compose.proofs.Walk.{gap-is}
 use Rattle.compose.proofs.Limits.{unit-advance, gap-limits}
 use Rattle.compose.proofs.Stretches.{line-more, line-last}
@@ -92,7 +92,8 @@ module _ {ws us gs : List ℕ} {i j : ℕ} (p : LineToSum ws us gs i j) where
       }
 
   module _ {advances : ℕ} {total : Gap} {a next : ℕ} (s : Summing ws i j advances total a next) where
-    pub sum-last : {r : Sums} → r .advances ≡ advances → gapFrom (r .gaps) ≡ total → j ≤ next → SumsOf (lineAt ws i j) r
+    pub sum-last : {r : Sums} → r .advances ≡ advances → gapFrom (r .gaps) ≡ total → j ≤ next →
+        SumsOf (lineAt ws i j) r
     unfolding unitAdvances totals
     sum-last e f h =
         let l : lineAt ws a j .rest ≡ [] = line-last ws a j (omega (arith, s .next-is)) in

@@ -21,8 +21,8 @@ use Rattle.rules.specs.Values.{gapFrom}
 use Rattle.compose.specs.Paragraph.{size, unitAt, Checked}
 use Rattle.compose.specs.Tables.{UnitTable}
 use Rattle.compose.specs.Lines.{lineAt, Tabled}
-use Rattle.compose.specs.declared.places.Sums.{Sums}
-use Rattle.compose.specs.declared.places.Stages.{Stages}
+use Rattle.compose.specs.declared.adjustment.Sums.{Sums}
+use Rattle.compose.specs.declared.adjustment.Stages.{Stages}
 
 abbrev pub amountsFrom : Stages → Amounts
 amountsFrom e = record { shrink₁ = e .shrink1; shrink₂ = e .shrink2; stretch₁ = e .stretch1; stretch₂ = e .stretch2 }

@@ -3,7 +3,7 @@
 --   size         the number of records
 --   from         the units of the records from record i on
 --   unitAt       the unit that starts with record i; nextAt: the record after it
---   runAt        the run, between neighbouring permitted breaks, that starts with record i; runEnd: the record after it
+--   runAt        the run, between neighbouring permitted breaks, that starts with record i; runEnd: the one after it
 --   checked      a paragraph of at most 256 records, to which answers 8 and 9 do not apply
 --
 -- A unit or run by a record inside a group is what the rules make of the records from there on. No call looks at it.

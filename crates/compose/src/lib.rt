@@ -1,4 +1,5 @@
 // From a paragraph's record words to its lines and places.
+mod adjustment;
 mod breaking;
 mod checks;
 mod paragraph;

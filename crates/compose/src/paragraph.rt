@@ -81,8 +81,8 @@ pub fn check(ws: &[u32], m: u32, x: u32) -> bool
     a.number == 0
 }
 
-// Composes a paragraph. Where it is accepted its place words and line words stand at the front of `places` and `lines`,
-// and the answer is 0 and the line count.
+// Composes a paragraph. Where it is accepted its place words and line words stand at the front of `places` and
+// `lines`, and the answer is 0 and the line count.
 pub fn compose(
     ws: &[u32],
     m: u32,

@@ -163,7 +163,10 @@ breaking-exists m x us = (
 -- and due exactly where none does
 pub due-exactly : (m x : ℕ) (us : List TextUnit) →
     ((i : ℕ) × (noBreaking m x us ≡ some i)) ↔ (((ls : List (Run TextUnit)) × Choice us ls × Fits m x ls) → ⊥)
-due-exactly m x us = (λ d c. some-none (sym (d .1) ∙ breaking-exists m x us .1 c), λ n. from (noBreaking m x us) refl n)
+due-exactly m x us = (
+  λ d c. some-none (sym (d .1) ∙ breaking-exists m x us .1 c),
+  λ n. from (noBreaking m x us) refl n,
+)
   where
     from : (o : Option ℕ) → noBreaking m x us ≡ o → (((ls : List (Run TextUnit)) × Choice us ls × Fits m x ls) → ⊥) →
         (i : ℕ) × (noBreaking m x us ≡ some i)
@@ -257,8 +260,10 @@ holds-run u (v ∷ us) (tied-more b h) rest t (s ∷ ts) vs e w =
     (r .0, cons-path p (r .1))
 
 -- a line that does not fit with the next run does not fit with any longer stretch that may end it
-next-too-wide : (m x : ℕ) (l k : Run TextUnit) (ks : List (Run TextUnit)) → TiedRun bound k → m < x + width (then l k) →
-    (t : Run TextUnit) (vs : List TextUnit) → whole t ++ vs ≡ joined (k ∷ ks) → EndsWell t vs → m < x + width (then l t)
+next-too-wide : (m x : ℕ) (l k : Run TextUnit) (ks : List (Run TextUnit)) → TiedRun bound k →
+    m < x + width (then l k) →
+    (t : Run TextUnit) (vs : List TextUnit) → whole t ++ vs ≡ joined (k ∷ ks) → EndsWell t vs →
+    m < x + width (then l t)
 unfolding joined
 next-too-wide m x l k ks h g t vs e w =
     let r = holds-run (k .first) (k .rest) h (joined ks) (t .first) (t .rest) vs e w in

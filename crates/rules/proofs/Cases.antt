@@ -1,8 +1,8 @@
 -- Document 01, "Composed by hand": the cases C1 to C13 as one table, with one claim over all rows that the checker
 -- computes; and C3 with every word of its slot.
 --
--- A row wants, in one list: the answer's number and place (0 and the line count where it is accepted), the place words,
--- the line words, and the offsets of the ruby characters of each group. Assumes nothing.
+-- A row wants, in one list: the answer's number and place (0 and the line count where it is accepted), the place
+-- words, the line words, and the offsets of the ruby characters of each group. Assumes nothing.
 use mathlib.Core.Path.{_≡_, refl}
 use Prim.Native.Nat.{ℕ, zero, suc, _+_, _*_, _-_, _/_}
 use mathlib.Core.Bool.{Bool, true, false, cond, _&&_}
@@ -125,7 +125,7 @@ unfolding computed
 c3-whole = refl
 
 -- "All other breaks are permitted, 27 before 13 included."
-pub postfix-permitted : forbidden (record { class = 27; size = 80; code = 0x35 }) (record { class = 13; size = 80; code = 0x25 }) ≡
-    false
+pub postfix-permitted :
+    forbidden (record { class = 27; size = 80; code = 0x35 }) (record { class = 13; size = 80; code = 0x25 }) ≡ false
 unfolding computed
 postfix-permitted = refl

@@ -1,5 +1,5 @@
--- What is proved of document 01's rules, in reading order: each claim is stated in the words of specs/Meanings.antt and
--- proved by one citation. Assumes nothing.
+-- What is proved of document 01's rules, in reading order: each claim is stated in the words of specs/Meanings.antt
+-- and proved by one citation. Assumes nothing.
 use mathlib.Core.Path.{_≡_, refl, _∙_, sym}
 use Prim.Native.Nat.{ℕ, _+_, _-_, _/_, _≤_, _<_}
 use mathlib.Core.Bool.{Bool, true, false}
@@ -40,7 +40,8 @@ units-only rs us h = maximal-only sameGroup rs us h
 pub units-are : (rs : List Rec) → All OneUnit (units rs)
 units-are rs = units-one rs
 
--- in a group each item of the shorter row stays within the longer row: a record r of the base row, and ruby character k
+-- in a group each item of the shorter row stays within the longer row: a record r of the base row, and the k-th ruby
+-- character
 pub base-row-within : (u : TextUnit) (rs : List Rec) (r : Rec) (qs : List Rec) → whole u ≡ rs ++ r ∷ qs →
     getD (baseOffsets u) (length rs) 0 + r .advance ≤ advance u
 base-row-within u rs r qs e = base-within u rs r qs e
@@ -118,7 +119,8 @@ module _ (m x : ℕ) (final : Bool) (l : Run TextUnit) (fits : x + width l ≤ m
   stage-order s g h = first-stage-full m x final l fits s g h
 
 -- a final line that is not wider than the measure is left as it is
-pub final-line : (m x : ℕ) (l : Run TextUnit) → x + width l ≤ m → natural x l ≤ m → lineOf m x true l .end ≡ natural x l
+pub final-line : (m x : ℕ) (l : Run TextUnit) → x + width l ≤ m → natural x l ≤ m →
+    lineOf m x true l .end ≡ natural x l
 final-line m x l fits h = final-ends m x l fits h
 
 -- Composed by hand -------------------------------------------------------------------------------------------------

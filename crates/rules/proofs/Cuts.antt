@@ -102,7 +102,8 @@ module _ {A : Type 0} (t : A → A → Bool) where
   maximal-only ps ls m = sym (cut-again (m .tied) (m .apart)) ∙ ap (λ s. cut t s) (m .joins-up)
 
   -- the first run starts with the first element
-  pub cut-first : (a : A) (ps : List A) → (l : Run A) × (ls : List (Run A)) × (cut t (a ∷ ps) ≡ l ∷ ls) × (l .first ≡ a)
+  pub cut-first : (a : A) (ps : List A) →
+      (l : Run A) × (ls : List (Run A)) × (cut t (a ∷ ps) ≡ l ∷ ls) × (l .first ≡ a)
   unfolding cut
   cut-first a ps = from (cut t ps)
     where

@@ -122,7 +122,8 @@ wide-ends m x final l h n =
     none false = omega arith
 
 -- a final line that is not wider ends where it naturally does
-pub final-ends : (m x : ℕ) (l : Run TextUnit) → x + width l ≤ m → natural x l ≤ m → lineOf m x true l .end ≡ natural x l
+pub final-ends : (m x : ℕ) (l : Run TextUnit) → x + width l ≤ m → natural x l ≤ m →
+    lineOf m x true l .end ≡ natural x l
 final-ends m x l h n =
     let t = taken m x true l h in
     let s : amountsOf m x true l .stretch₂ ≡ 0 = omega (arith, t .under) in
@@ -143,7 +144,8 @@ flush-ends m x false l h k =
       | inl p ↦
           elim (tested (eqb (gapsOf l .stretch₂) 0)) [
             | inl q ↦ absurd (two-one (rw (p, q) at k))
-            | inr q ↦ omega (arith, end-law m x false l h, spread-all e (gapsOf l) (eqb-false _ _ q), t .under, t .over)
+            | inr q ↦
+                omega (arith, end-law m x false l h, spread-all e (gapsOf l) (eqb-false _ _ q), t .under, t .over)
           ]
       | inr p ↦
           let s : e .stretch₂ ≡ 0 = omega (arith, ltb-false 0 (e .stretch₂) p) in

@@ -41,7 +41,8 @@ unfoldable pub joined : {A : Type 0} → List (Run A) → List A
 joined [] = []
 joined (l ∷ ls) = whole l ++ joined ls
 
--- put an element before runs: into the first run where it is tied to that run's first element, else as a run of its own
+-- put an element before runs: into the first run where it is tied to that run's first element, else as a run of its
+-- own
 abbrev pub tie : {A : Type 0} → (A → A → Bool) → A → List (Run A) → List (Run A)
 tie t a [] = alone a ∷ []
 tie t a (l ∷ ls) = cond (t a (l .first)) (then (alone a) l ∷ ls) (alone a ∷ l ∷ ls)

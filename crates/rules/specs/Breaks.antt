@@ -73,7 +73,13 @@ pub record Gap : Type 0 where
 unfoldable pub gapBy : Flexibility → Space → ℕ → ℕ → ℕ → Gap
 gapBy early p left right w =
     let s = measured p left right in
-    record { space = s; shrink₁ = s - measured (brought quarter p) left right; shrink₂ = 0; stretch₁ = 0; stretch₂ = w }
+    record {
+      space = s;
+      shrink₁ = s - measured (brought quarter p) left right;
+      shrink₂ = 0;
+      stretch₁ = 0;
+      stretch₂ = w;
+    }
 gapBy late p left right w =
     let s = measured p left right in
     record {
@@ -83,7 +89,8 @@ gapBy late p left right w =
       stretch₁ = measured (brought half p) left right - s;
       stretch₂ = w;
     }
-gapBy rigid p left right w = record { space = measured p left right; shrink₁ = 0; shrink₂ = 0; stretch₁ = 0; stretch₂ = w }
+gapBy rigid p left right w =
+    record { space = measured p left right; shrink₁ = 0; shrink₂ = 0; stretch₁ = 0; stretch₂ = w }
 
 -- "Stretch stage 2: every permitted-break gap with class 5 on neither side, weight 1 each, no limit."
 unfoldable pub weight : Side → Side → ℕ

@@ -15,5 +15,10 @@ use Rattle.rules.specs.Refusals.{judged, sound, splice, slotRows, editSl
 use Rattle.rules.specs.Refusals.{readStart, readLength, readWords, badSlot, freshSlots, setUpAnswer, setUp}
 
 unfoldable pub computed : Unit {0}
-unfolding joined cut zeros codeOk classes classOk rowOf sizeOk advanceKind advanceOk groupOk recOk badRecord records recordWords badGroup groupFault units counts sideBy advances groupAdvance advance shift baseOffset offsets baseOffsets rubyOffset rubyPlace ruleOf measured spaceBy spaceOf forbidden flexibility gapBy weight gapOf smallest runs wideRun noBreaking filled breaking totals unitAdvances amounts amountsOf placed ending kindOf lineOf linesOf compose placesOf placeWords lineWords slotWords judged sound splice slotRows editSlot callRows called edit readNumber readStart readLength readWords badSlot freshSlots setUpAnswer setUp
+unfolding joined cut zeros codeOk classes classOk rowOf sizeOk advanceKind advanceOk groupOk recOk badRecord
+    records recordWords badGroup groupFault units counts sideBy advances groupAdvance advance shift baseOffset
+    offsets baseOffsets rubyOffset rubyPlace ruleOf measured spaceBy spaceOf forbidden flexibility gapBy weight
+    gapOf smallest runs wideRun noBreaking filled breaking totals unitAdvances amounts amountsOf placed ending
+    kindOf lineOf linesOf compose placesOf placeWords lineWords slotWords judged sound splice slotRows editSlot
+    callRows called edit readNumber readStart readLength readWords badSlot freshSlots setUpAnswer setUp
 computed = tt

@@ -24,9 +24,9 @@ joins g h = not (eqb h 0) && eqb g h
 abbrev pub sameGroup : Rec → Rec → Bool
 sameGroup p r = joins (p .group) (r .group)
 
--- "at most 16 records, equal size, equal ruby count. Answer 9 names the first record that differs in size or ruby count
--- from the one before it in its group, or is the seventeenth." Records are counted from i; p, the n-th of its group,
--- stands before them
+-- "at most 16 records, equal size, equal ruby count. Answer 9 names the first record that differs in size or ruby
+-- count from the one before it in its group, or is the seventeenth." Records are counted from i; p, the n-th of its
+-- group, stands before them
 unfoldable pub badGroup : ℕ → ℕ → Rec → List Rec → Option ℕ
 badGroup i n p [] = none
 badGroup i n p (r ∷ rs) =

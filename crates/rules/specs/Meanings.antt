@@ -82,11 +82,13 @@ pub data EndsWell : Run TextUnit → List TextUnit → Type 0 where
   at-end : {l : Run TextUnit} → EndsWell l []
   at-break : {l : Run TextUnit} {v : TextUnit} {vs : List TextUnit} → bound (lastIn l) v ≡ false → EndsWell l (v ∷ vs)
 
--- of the lines, each is the longest: with some of the units that follow it, up to where a line may end, it does not fit
+-- of the lines, each is the longest: with some of the units that follow it, up to where a line may end, it does not
+-- fit
 pub data Longest (m : ℕ) : ℕ → List (Run TextUnit) → Type 0 where
   longest-none : {x : ℕ} → Longest m x []
   longest-more : {x : ℕ} {l : Run TextUnit} {ls : List (Run TextUnit)} →
-      ((t : Run TextUnit) (vs : List TextUnit) → whole t ++ vs ≡ joined ls → EndsWell t vs → m < x + width (then l t)) →
+      ((t : Run TextUnit) (vs : List TextUnit) → whole t ++ vs ≡ joined ls → EndsWell t vs →
+      m < x + width (then l t)) →
       Longest m 0 ls → Longest m x (l ∷ ls)
 
 -- where the first of the runs ls that does not fit m stands, and the record i it starts with
@@ -106,7 +108,8 @@ pub record FirstWide (m x : ℕ) (ls : List (Run TextUnit)) (i : ℕ) : Type 0 w
 -- a line of a unit u and units us has a gap g, after gaps that add up to s
 pub data GapAt : TextUnit → List TextUnit → Gap → Gap → Type 0 where
   gap-here : {u v : TextUnit} {us : List TextUnit} → GapAt u (v ∷ us) nothing (gap u v)
-  gap-later : {u v : TextUnit} {us : List TextUnit} {s g : Gap} → GapAt v us s g → GapAt u (v ∷ us) (plus (gap u v) s) g
+  gap-later : {u v : TextUnit} {us : List TextUnit} {s g : Gap} → GapAt v us s g →
+      GapAt u (v ∷ us) (plus (gap u v) s) g
 
 -- what the gap gets at each stage is within its capacity there, and one without weight gets nothing at stretch stage
 -- 2; so it comes to no less than its least and, before that stage, to no more than what stretch stage 1 allows

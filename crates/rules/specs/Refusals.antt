@@ -104,8 +104,8 @@ readNumber ws caller k =
     let a = called ws caller k in
     cond (eqb (a .number) 0) (cond (ltb 256 (lineCountOf (slotAt ws k))) 4 0) (a .number)
 
--- where in the sheet the words that a read hands back start, and how many they are: "A refused read hands back an empty
--- part."
+-- where in the sheet the words that a read hands back start, and how many they are: "A refused read hands back an
+-- empty part."
 unfoldable pub readStart : List ℕ → ℕ → ℕ → ℕ
 readStart ws caller k = cond (eqb (readNumber ws caller k) 0) (2824 * k + 2056) 0
 

@@ -1,5 +1,5 @@
--- Two sheets: what a call answers depends on the sheet's length, the named slot's clinic and, where that is the caller,
--- the slot's words. Assumes nothing.
+-- Two sheets: what a call answers depends on the sheet's length, the named slot's clinic and, where that is the
+-- caller, the slot's words. Assumes nothing.
 use mathlib.Core.Path.{_≡_, refl, sym, ap, _∙_}
 use Prim.Native.Nat.{ℕ, _*_, _/_}
 use mathlib.Core.Bool.{Bool, true, false, not, _||_}

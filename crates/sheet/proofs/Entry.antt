@@ -11,7 +11,7 @@ use lib.Dec.{leb, ltb, eqb}
 use lib.ListN.{length, getD, take, drop, length-drop}
 use lib.Seq.{getD-take, getD-drop, take-take, drop-drop, length-take-le}
 use borrow.Rule.Slice.PartMut.{putMid}
-use borrow.Author.Tests.{ltb-false, lt-ltb, le-ltb, leb-true, leb-false, le-leb, lt-leb}
+use borrow.Author.Tests.{ltb-true, ltb-false, lt-ltb, le-ltb, leb-true, leb-false, le-leb, lt-leb}
 use borrow.Author.Tests.{eqb-true, eqb-false, eq-eqb, ne-eqb, not-false}
 use Rattle.rules.specs.Basics.{within}
 use Rattle.rules.specs.Sheet.{clinicOf, lineCountOf, slotCount, lengthOk, slotAt, withSlot}
@@ -65,25 +65,61 @@ whole n e =
     }
 
 -- the limits of a length, in words
-pub too-short : (n : ℕ) → n < 2824 → false ≡ lengthOk n
+too-short : (n : ℕ) → n < 2824 → lengthOk n ≡ false
 too-short n h = rw (lt-leb 1 (n / 2824) (omega arith), and-false)
 
-pub too-long : (n : ℕ) → 180736 < n → false ≡ lengthOk n
+too-long : (n : ℕ) → 180736 < n → lengthOk n ≡ false
 too-long n h =
     elim (tested (eqb (n % 2824) 0)) [
       | inl e ↦ let d = eqb-true (n % 2824) 0 e in rw (e, lt-leb (n / 2824) 64 (omega arith), and-false)
       | inr e ↦ rw e
     ]
 
-pub within-limits : (n : ℕ) → 2824 ≤ n → n ≤ 180736 → eqb (n % 2824) 0 ≡ lengthOk n
+within-limits : (n : ℕ) → 2824 ≤ n → n ≤ 180736 → lengthOk n ≡ eqb (n % 2824) 0
 within-limits n a b = rw (le-leb 1 (n / 2824) (omega arith), le-leb (n / 2824) 64 (omega arith), and-true)
 
--- a slot number is compared by where its slot would start
-pub past-the-last : (n k : ℕ) → lengthOk n ≡ true → n ≤ 2824 * k → n / 2824 ≤ k
-past-the-last n k e h = omega (arith, whole n e .exact)
+-- the slots of a sheet of n words, 0 where its length is not within its limits
+module _ (n : ℕ) where
+  abbrev slots : ℕ
+  slots = cond (lengthOk n) (n / 2824) 0
 
-pub a-slot : (n k : ℕ) → lengthOk n ≡ true → 2824 * k < n → k < n / 2824
-a-slot n k e h = omega (arith, whole n e .exact)
+  abbrev beside : Bool
+  beside = ltb n 2824 || ltb 180736 n
+
+  pub none-beside : beside ≡ true → 0 ≡ slots
+  none-beside e =
+      elim (tested (ltb n 2824)) [
+        | inl p ↦ rw (too-short n (ltb-true n 2824 p))
+        | inr p ↦ rw (too-long n (ltb-true 180736 n (rw p at e)))
+      ]
+
+  between : beside ≡ false → lengthOk n ≡ eqb (n % 2824) 0
+  between e =
+      within-limits n (ltb-false n 2824 (or-left _ (ltb 180736 n) e)) (ltb-false 180736 n (or-right (ltb n 2824) _ e))
+
+  pub some-exact : beside ≡ false → 2824 * (n / 2824) ≡ n → n / 2824 ≡ slots
+  some-exact e q = rw (between e ∙ eq-eqb (n % 2824) 0 (omega (arith, q)))
+
+  pub none-inexact : beside ≡ false → (2824 * (n / 2824) ≡ n → ⊥) → 0 ≡ slots
+  none-inexact e q = rw (between e ∙ ne-eqb (n % 2824) 0 (λ z. q (omega (arith, z))))
+
+  pub without-slots : {p : ℕ} → p ≡ slots → p ≡ 0 → lengthOk n ≡ false
+  without-slots {p} e z =
+      elim (tested (lengthOk n)) [
+        | inl o ↦ let d : p ≡ n / 2824 = rw o at e in absurd (omega (arith, whole n o .some))
+        | inr o ↦ o
+      ]
+
+  pub with-slots : {p : ℕ} → p ≡ slots → (p ≡ 0 → ⊥) → (lengthOk n ≡ true) × (p ≡ n / 2824)
+  with-slots {p} e z =
+      elim (tested (lengthOk n)) [
+        | inl o ↦ (o, rw o at e)
+        | inr o ↦ absurd (z (rw o at e))
+      ]
+
+  -- where a slot starts
+  pub starts-within : (k : ℕ) → lengthOk n ≡ true → k < n / 2824 → 2824 * k < n
+  starts-within k e h = omega (arith, whole n e .exact)
 
 -- what the rows 1 to 3 leave of a call on slot k
 pub record Entered (ws : List ℕ) (caller k : ℕ) : Type 0 where

@@ -1,5 +1,5 @@
--- Laws of the calls on a sheet and of the book, each file leaning on those above it. `Claims` states what is proved, in
--- reading order.
+-- Laws of the calls on a sheet and of the book, each file leaning on those above it. `Claims` states what is proved,
+-- in reading order.
 pub mod Tables
 pub mod Entry
 pub mod Lists

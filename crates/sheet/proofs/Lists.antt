@@ -4,7 +4,7 @@ use Prim.Native.Nat.{ℕ, suc, _+_, _-_, _*_, _/_, _≤_, _<_}
 use native.Mathlib.Nat.{sub-zero}
 use native.Mathlib.Numerals.{add-one}
 use native.Mathlib.Omega.{arith}
-use mathlib.Core.Bool.{Bool, true, false, not, _||_}
+use mathlib.Core.Bool.{Bool, true, false, cond, not, _||_}
 use mathlib.Core.List.{List}
 use mathlib.Core.Logic.{inl, inr}
 use mathlib.Core.Option.{Option, none, some}
@@ -55,6 +55,19 @@ module _ (cs ms xs : List ℕ) where
   misfit n =
       not (lengthOk n) || not (eqb (length cs) (n / 2824)) || not (eqb (length ms) (n / 2824))
       || not (eqb (length xs) (n / 2824))
+
+  -- as the program tells it, by the number of slots
+  pub misfit-by : (n p : ℕ) → p ≡ cond (lengthOk n) (n / 2824) 0 →
+      eqb p 0 || not (eqb (length cs) p) || not (eqb (length ms) p) || not (eqb (length xs) p) ≡ misfit n
+  misfit-by n p e =
+      elim (tested (lengthOk n)) [
+        | inl o ↦
+            let d : p ≡ n / 2824 = rw o at e in
+            rw (o, d, ne-eqb (n / 2824) 0 (λ z. omega (arith, whole n o .some, z)))
+        | inr o ↦
+            let d : p ≡ 0 = rw o at e in
+            rw (o, d)
+      ]
 
   -- what the lists and the length tell where answer 1 is not due
   pub record Fitting (n : ℕ) : Type 0 where

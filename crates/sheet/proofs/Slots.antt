@@ -1,5 +1,5 @@
--- One slot: an edit of a sound slot's words does what the book does with its records, and an accepted edit of any words
--- leaves a whole slot. Assumes nothing.
+-- One slot: an edit of a sound slot's words does what the book does with its records, and an accepted edit of any
+-- words leaves a whole slot. Assumes nothing.
 use mathlib.Core.Path.{_≡_, refl, sym, ap, _∙_}
 use Prim.Native.Nat.{ℕ, zero, suc, _+_, _-_, _/_, _%_, _≤_}
 use native.Mathlib.Omega.{arith}

@@ -25,8 +25,8 @@ use Rattle.sheet.proofs.Entry.{entered, part-of-slot}
 use Rattle.sheet.proofs.Lists.{accepted, accepted-limits}
 use Rattle.rules.proofs.Lengths.{composed-few}
 use Rattle.sheet.proofs.Words.{slot-line-count, slot-lines}
-use Rattle.sheet.proofs.Encode.{Sound, WellFormed, all-at, all-set, length-encode, slot-of, with-slot, clinic-of}
-use Rattle.sheet.proofs.Encode.{encode-empty, length-empty, sound-empty}
+use Rattle.sheet.proofs.Encode.{Sound, WellFormed, all-at, all-set, length-encode, slot-of, with-slot}
+use Rattle.sheet.proofs.Encode.{clinic-of, encode-empty, length-empty, sound-empty}
 use Rattle.sheet.proofs.Slots.{slotAnswer, slotAfter, edited-sound, slot-edits}
 
 module _ (n : ℕ) (b : List BookSlot) (g : WellFormed n b) where

@@ -43,7 +43,8 @@ under-table (row ∷ rows) a p = rw (p .0) (under-table rows a (p .1))
 
 -- a table after another: it is gone through where the number of the first is 0
 pub then-table : (rows more : List (Bool × Answer)) (a : Answer) → lacking 0 rows ≡ true →
-    firstOf (rows ++ more) a ≡ cond (eqb (firstOf rows (says 0 0) .number) 0) (firstOf more a) (firstOf rows (says 0 0))
+    firstOf (rows ++ more) a
+    ≡ cond (eqb (firstOf rows (says 0 0) .number) 0) (firstOf more a) (firstOf rows (says 0 0))
 then-table [] more a l = refl
 then-table (row ∷ rows) more a l =
     let here = and-left (not (eqb (row .1 .number) 0)) (lacking 0 rows) l in

@@ -7,7 +7,8 @@ pub use rules::ruby_place;
 pub use slot::Answer;
 use slot::edit_slot;
 ghost use mathlib.Core.Path.{_≡_};
-ghost use Prim.Native.Nat.{_+_, _*_};
+ghost use mathlib.Core.Bool.{cond};
+ghost use Prim.Native.Nat.{_+_, _*_, _/_};
 ghost use lib.ListN.{length};
 ghost use Rattle.rules.specs.Sheet.{lengthOk};
 ghost use Rattle.rules.specs.Refusals.{says, readNumber, readStart, readLength, readWords};
@@ -20,38 +21,36 @@ pub struct Clinic(pub u32);
 #[repr(C)]
 pub struct SlotNumber(pub u32);
 
-// Whether a sheet's length is 2,824 P for a P from 1 to 64.
-fn length_ok(len: usize) -> bool
-    ensures { λ r. ⌜ r ≡ lengthOk len ⌝ }
+// The number of slots of a sheet of `len` words: P where `len` is 2,824 P for a P from 1 to 64, otherwise 0.
+fn slot_count(len: usize) -> usize
+    ensures { λ p. ⌜ p ≡ cond (lengthOk len) (len / 2824) 0 ⌝ }
 {
     // the limits first: they leave a division of small numbers
-    if len < 2824 {
-        return false;
+    if (len < 2824) | (180736 < len) {
+        return 0;
     }
-    if 180736 < len {
-        return false;
-    }
-    len % 2824 == 0
+    let p = len / 2824;
+    if 2824 * p == len { p } else { 0 }
 }
 
 // Answers 1, 2 and 3, with which every call on a slot begins, or 0. Of the slot it looks at the clinic alone.
 fn called(sheet: &[u32], caller: Clinic, slot: SlotNumber) -> Answer
     ensures { λ r. ⌜ says (r .number) (r .place) ≡ calledOf (now (sheet .entry)) (caller .0) (slot .0) ⌝ }
 {
-    let len = sheet.len();
-    if !length_ok(len) {
+    let p = slot_count(sheet.len());
+    if p == 0 {
         return Answer {
             number: 1,
             place: 0,
         };
     }
-    let first = 2824 * slot.0 as usize;
-    if len <= first {
+    if p <= slot.0 as usize {
         return Answer {
             number: 2,
             place: 0,
         };
     }
+    let first = 2824 * slot.0 as usize;
     if (caller.0 == 0) | (caller.0 != sheet[first]) {
         return Answer {
             number: 3,

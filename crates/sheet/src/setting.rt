@@ -1,6 +1,6 @@
 // Set-up: every slot empty, with its clinic, measure and indent.
 use crate::Answer;
-use crate::length_ok;
+use crate::slot_count;
 ghost use mathlib.Core.Path.{_≡_};
 ghost use Prim.Native.Nat.{_*_, _≤_};
 ghost use lib.ListN.{length};
@@ -44,11 +44,8 @@ fn set_up_answer(len: usize, clinics: &[u32], measures: &[u32], indents: &[u32])
     ensures { λ r. ⌜ says (r .number) (r .place)
         ≡ setUpAnswer len (now (clinics .entry)) (now (measures .entry)) (now (indents .entry)) ⌝ }
 {
-    let p = len / 2824;
-    let misfit = !length_ok(len)
-        | (clinics.len() != p)
-        | (measures.len() != p)
-        | (indents.len() != p);
+    let p = slot_count(len);
+    let misfit = (p == 0) | (clinics.len() != p) | (measures.len() != p) | (indents.len() != p);
     if misfit {
         return Answer {
             number: 1,

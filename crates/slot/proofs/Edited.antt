@@ -62,7 +62,8 @@ module _ (s : List ℕ) (p d : ℕ) (ins : List ℕ) (len : length s ≡ 2824) (
 
   -- the list that the program makes: those words, and zeros
   pub record NewList (list : List ℕ) : Type 0 where
-    pub replaceable : limitsOk (measureOf s) (indentOf s) ≡ true → Replaceable s list ((countOf s - d) * 6 + length ins)
+    pub replaceable : limitsOk (measureOf s) (indentOf s) ≡ true →
+        Replaceable s list ((countOf s - d) * 6 + length ins)
     pub records : paragraph (take ((countOf s - d) * 6 + length ins) list) ≡ edited s p d ins
 
   pub new-list : (list : List ℕ) →

@@ -9,12 +9,14 @@ use lib.Seq.{drop-at}
 use Rattle.slot.specs.Slot.{headOf, spliced}
 
 -- a paste right after p
-pub paste-at : (p d s : List ℕ) (at n : ℕ) → length p ≡ at → length s ≡ n → paste (p ++ d) at s n ≡ p ++ (s ++ drop n d)
+pub paste-at : (p d s : List ℕ) (at n : ℕ) → length p ≡ at → length s ≡ n →
+    paste (p ++ d) at s n ≡ p ++ (s ++ drop n d)
 paste-at p d s at n ep es = rw (← ep, ← es, take-append-seam, take-length, drop-append-add, append-assoc)
 
 -- a list of at least eight has eight first
 eight : (w : List ℕ) → 8 ≤ length w →
-    w ≡ getD w 0 0 ∷ getD w 1 0 ∷ getD w 2 0 ∷ getD w 3 0 ∷ getD w 4 0 ∷ getD w 5 0 ∷ getD w 6 0 ∷ getD w 7 0 ∷ drop 8 w
+    w
+    ≡ getD w 0 0 ∷ getD w 1 0 ∷ getD w 2 0 ∷ getD w 3 0 ∷ getD w 4 0 ∷ getD w 5 0 ∷ getD w 6 0 ∷ getD w 7 0 ∷ drop 8 w
 eight w h =
     drop-cons w 0 0 (omega arith)
     ∙ ap (λ l. getD w 0 0 ∷ l)

@@ -76,8 +76,8 @@ fn replace(words: &mut [u32], list: &[u32], total: usize) -> Answer
     a
 }
 
-// One slot's edit: `deleted` records go out at `place`, and the inserted ones come in there. The new record list is held
-// in a local until every check has passed.
+// One slot's edit: `deleted` records go out at `place`, and the inserted ones come in there. The new record list is
+// held in a local until every check has passed.
 pub fn edit_slot(words: &mut [u32], place: u32, deleted: u32, inserted: &[u32]) -> Answer
     requires { ⌜ length (now words) ≡ 2824 ⌝ }
     ensures { λ r. ⌜ (says (r .number) (r .place), now (words .exit)) ≡

@@ -29,7 +29,8 @@ pub(crate) fn splice(
 )
     requires { ⌜ (before ≤ after) × (after ≤ length (now records)) ⌝ }
     requires { ⌜ before + length (now inserted) + (length (now records) - after) ≤ length (now list) ⌝ }
-    ensures { λ _. ⌜ now (list .exit) ≡ splicedInto (now (list .entry)) (now (records .entry)) before after (now (inserted .entry)) ⌝ }
+    ensures { λ _. ⌜ now (list .exit)
+        ≡ splicedInto (now (list .entry)) (now (records .entry)) before after (now (inserted .entry)) ⌝ }
 {
     copy_in(list, 0, &records[0..before]);
     copy_in(list, before, inserted);
@@ -58,8 +59,8 @@ pub(crate) fn write_slot(
     lines: &[u32; 768],
 )
     requires { ⌜ (length (now words) ≡ 2824) × (length (now list) ≡ 1536) ⌝ }
-    ensures { λ _. ⌜ now (words .exit) ≡
-        headOf (now (words .entry)) count «line_count» ++ (now (list .entry) ++ (now (places .entry) ++ now (lines .entry))) ⌝ }
+    ensures { λ _. ⌜ now (words .exit) ≡ headOf (now (words .entry)) count «line_count»
+        ++ (now (list .entry) ++ (now (places .entry) ++ now (lines .entry))) ⌝ }
 {
     put_head(words, count, line_count);
     copy_in(words, 8, list);

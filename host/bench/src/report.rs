@@ -7,6 +7,9 @@ use crate::timing::Cell;
 const MEMSET: &str = "memset of a slot";
 const MEMCPY: &str = "memcpy of a slot";
 const PROGRAMS: [&str; 2] = ["proved", "second"];
+/// Rows of which the first should not take much more than the second: more slots, twice the records.
+const GROWTHS: [(&str, &str); 2] =
+    [("replace 1 of 256, 64 slots", "replace 1 of 256"), ("replace 1 of 256", "replace 1 of 128")];
 
 /// Medians by row and column.
 pub struct Report {
@@ -32,7 +35,7 @@ impl Report {
         cell.map(|(_, _, median)| *median)
     }
 
-    /// The rows, then what depends on the number of slots.
+    /// The rows, then how an edit grows with slots and records.
     pub fn table(&self) -> String {
         let [memset, memcpy] = [MEMSET, MEMCPY].map(|row| self.median(row, "plain"));
         let mut table = format!("{MEMSET}: {} ns, {MEMCPY}: {} ns\n\n", number(memset), number(memcpy));
@@ -48,10 +51,12 @@ impl Report {
         }
         table.push('\n');
         for column in PROGRAMS {
+            let [slots, records] = GROWTHS.map(|(more, less)| self.growth(column, more, less));
             let _ = writeln!(
                 table,
-                "{column}: an edit on 64 slots takes {} times one on 1",
-                number(self.growth(column))
+                "{column}: an edit on 64 slots takes {} times one on 1, of 256 records {} times one of 128",
+                number(slots),
+                number(records)
             );
         }
         table
@@ -69,9 +74,8 @@ impl Report {
         format!("{{\n{}\n}}\n", rows.join(",\n"))
     }
 
-    /// An edit on a sheet of 64 slots against one on a sheet of 1.
-    fn growth(&self, column: &str) -> Option<f64> {
-        ratio(self.median("replace 1 of 256, 64 slots", column), self.median("replace 1 of 256", column))
+    fn growth(&self, column: &str, more: &str, less: &str) -> Option<f64> {
+        ratio(self.median(more, column), self.median(less, column))
     }
 }
 

@@ -39,8 +39,10 @@ impl Cell {
         start.elapsed()
     }
 
-    /// How many calls fill a slice, found by doubling. This also warms up.
+    /// How many calls fill a slice, found by doubling. The first call is not counted: it may touch
+    /// each page of a new sheet, and take a slice by itself.
     fn calls_per_slice(&mut self) -> u32 {
+        self.run(1);
         let mut calls = 1;
         while self.run(calls) < SLICE && calls < 1 << 24 {
             calls *= 2;

@@ -1,38 +1,55 @@
 -- `sheet::called` meets its contract. Assumes nothing.
 use mathlib.Core.Path.{_≡_, sym, _∙_}
+use Prim.Native.Nat.{ℕ, _/_, _<_}
+use native.Mathlib.Omega.{arith}
 use mathlib.Core.Bool.{true}
 use lib.ListN.{length}
 use borrow.Author.Needs.{needs}
-use borrow.Author.Tests.{not-true, not-false}
 use denote.Ref.{now}
 use Rattle.rules.specs.Sheet.{lengthOk}
-use Rattle.sheet.proofs.Entry.{clinic-at, past-the-last, a-slot, called-0, called-1, called-2, called-3}
+use Rattle.sheet.proofs.Entry.{clinic-at, without-slots, with-slots, starts-within}
+use Rattle.sheet.proofs.Entry.{called-0, called-1, called-2, called-3}
 use Rattle.sheet.proofs.called.Statement.{statement}
 use Rattle.sheet.proofs.called.Tie as tie
 
--- where the length is within its limits
-long : (c : tie.Else1) → lengthOk (length (now (c .before .before .before .args .sheet))) ≡ true
-long c = sym (c .before .length-ok .ensures) ∙ not-false _ (c .if1 .left)
+abbrev size : tie.Start → ℕ
+size s = length (now (s .args .sheet))
+
+-- where answer 1 is not due
+counted : (c : tie.Else1) → let n = size (c .before .before .before) in
+    (lengthOk n ≡ true) × (c .before .slot-count .result ≡ n / 2824)
+counted c = with-slots (size (c .before .before .before)) (c .before .slot-count .ensures) (c .if1 .left)
+
+-- nor answer 2
+slot-within : (c : tie.Else2) →
+    let s = c .before .before .before .before .before in
+    s .args .slot .0 < size s / 2824
+slot-within c = omega (arith, counted (c .before .before) .1, c .if2 .left)
 
 returns : tie.Need-returns
-returns c = sym (called-1 _ _ _ (sym (c .before .length-ok .ensures) ∙ not-true _ (c .if1 .taken)))
+returns c =
+    let n = size (c .before .before .before) in
+    sym (called-1 _ _ _ (without-slots n (c .before .slot-count .ensures) (c .if1 .taken)))
 
 returns-2 : tie.Need-returns-2
 returns-2 c =
-    let l = long (c .before .before) in
-    sym (called-2 _ _ _ l (past-the-last _ _ l (c .if2 .taken)))
+    let k = counted (c .before .before) in
+    sym (called-2 _ _ _ (k .0) (omega (arith, k .1, c .if2 .taken)))
+
+shared-slice-read-if3 : tie.Need-shared-slice-read-if3
+shared-slice-read-if3 c =
+    let d = c .before .before .before in
+    starts-within (size (d .before .before .before .before .before)) _ (counted (d .before .before) .0) (slot-within d)
 
 returns-3 : tie.Need-returns-3
 returns-3 c =
-    let d = c .before .before .before .before in
-    let l = long (d .before .before) in
-    sym (called-3 _ _ _ l (a-slot _ _ l (d .if2 .left)) (rw clinic-at (c .if3 .taken)))
+    let d = c .before .before .before .before .before in
+    sym (called-3 _ _ _ (counted (d .before .before) .0) (slot-within d) (rw clinic-at (c .if3 .taken)))
 
 returns-4 : tie.Need-returns-4
 returns-4 c =
-    let d = c .before .before .before .before in
-    let l = long (d .before .before) in
-    sym (called-0 _ _ _ l (a-slot _ _ l (d .if2 .left)) (rw clinic-at (c .if3 .left)))
+    let d = c .before .before .before .before .before in
+    sym (called-0 _ _ _ (counted (d .before .before) .0) (slot-within d) (rw clinic-at (c .if3 .left)))
 
 pub called-spec : {M : Type 1} → statement M
 called-spec =
@@ -41,9 +58,10 @@ called-spec =
     (λ c κs. search needs)
     returns
     (λ c. search needs)
-    (λ c. search needs)
     returns-2
     (λ c. search needs)
     (λ c. search needs)
+    (λ c. search needs)
+    shared-slice-read-if3
     returns-3
     returns-4)

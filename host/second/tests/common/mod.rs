@@ -55,6 +55,22 @@ pub fn edit(
     (answer.number, answer.place)
 }
 
+/// The answer of an edit that is refused, which changes no word.
+pub fn refused(
+    sheet: &mut [u32],
+    caller: u32,
+    slot: u32,
+    place: u32,
+    deleted: u32,
+    inserted: &[u32],
+) -> (u32, u32) {
+    let before = sheet.to_vec();
+    let answer = edit(sheet, caller, slot, place, deleted, inserted);
+    assert_ne!(answer.0, 0);
+    assert_eq!(sheet, before);
+    answer
+}
+
 /// The answer of inserting records into an empty slot.
 pub fn compose(records: &[Words], measure: u32, indent: u32) -> (u32, u32) {
     let mut sheet = one_slot(measure, indent);

@@ -31,7 +31,8 @@ break-lines-requires c κs =
 place-lines-requires : tie.Need-place-lines-requires
 place-lines-requires c κs =
     let s =
-    c .before .before .before .before .before .before .before .before .before .before .before .before .before .before .before in
+    c .before .before .before .before .before .before .before .before .before
+    .before .before .before .before .before .before in
     let ws = now (s .args .ws) in
     let a =
     c .before .before .before .before .before .before .before .before .before .before .judge .ensures .accepted
@@ -53,7 +54,8 @@ place-lines-requires c κs =
 says-requires : tie.Need-says-requires
 says-requires c κs =
     let s =
-    c .before .before .before .before .before .before .before .before .before .before .before .before .before .before .before .before in
+    c .before .before .before .before .before .before .before .before .before
+    .before .before .before .before .before .before .before in
     let b = c .before .before .before .before .before .before .break-lines .ensures in
     omega (arith, b .count, lines-within (now (s .args .ws)) (s .args .m) (s .args .x), s .pre .few)
 
@@ -61,9 +63,13 @@ says-requires c κs =
 returns-2 : tie.Need-returns-2
 returns-2 c =
     let s =
-    c .before .before .before .before .before .before .before .before .before .before .before .before .before .before .before .before .before in
+    c .before .before .before .before .before .before .before .before .before
+    .before .before .before .before .before .before .before .before in
     composing (now (s .args .ws)) _ _ _ _ _ _ _ _ _ _ _ _ _
-    (c .before .before .before .before .before .before .before .before .before .before .before .before .judge .ensures .accepted (c .before .before .before .before .before .before .before .before .before .before .if1 .left)) (c .before .before .before .before .before .before .before .break-lines .ensures)
+    (c .before .before .before .before .before .before .before .before .before .before .before .before
+    .judge .ensures .accepted
+    (c .before .before .before .before .before .before .before .before .before .before .if1 .left))
+    (c .before .before .before .before .before .before .before .break-lines .ensures)
     (c .before .place-lines .ensures)
     (c .says .ensures)
 

@@ -70,7 +70,9 @@ says-requires-3 c κs = search needs
 
 returns-3 : tie.Need-returns-3
 returns-3 c =
-    let s = c .before .before .before .before .before .before .before .before .before .before .before .before .before in
+    let s =
+    c .before .before .before .before .before .before .before .before .before
+    .before .before .before .before in
     let k = c .before .before .first-wide-run in
     let ws = now (s .args .ws) in
     let h = checked (c .before .before .before .before .before .before .before .before) in
@@ -82,7 +84,9 @@ says-requires-4 c κs = search needs
 
 returns-4 : tie.Need-returns-4
 returns-4 c =
-    let s = c .before .before .before .before .before .before .before .before .before .before .before .before .before in
+    let s =
+    c .before .before .before .before .before .before .before .before .before
+    .before .before .before .before in
     let k = c .before .before .first-wide-run in
     acceptance (now (s .args .ws)) _ _ _ _ _ _ _ (c .says4 .ensures .0)
     (record {

@@ -1,4 +1,5 @@
--- `compose::places::place_unit` meets its contract: after k turns the places of k records are written. Assumes nothing.
+-- `compose::places::place_unit` meets its contract: after k turns the places of k records are written.
+-- Assumes nothing.
 use mathlib.Core.Path.{ap}
 use Prim.Native.Nat.{_-_}
 use native.Mathlib.Omega.{arith}

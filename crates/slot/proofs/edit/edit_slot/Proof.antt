@@ -43,7 +43,8 @@ new-list-at : (c : tie.After-splice) →
     let a = s .args in
     let seven = c .before .before .before .before in
     let five = seven .before .before in
-    NewList (now (a .words)) (a .place) (a .deleted) (now (a .inserted)) (s .pre) (few-at (five .before .before .before))
+    NewList (now (a .words)) (a .place) (a .deleted) (now (a .inserted)) (s .pre)
+    (few-at (five .before .before .before))
     (within-at five)
     (seven .before .if4 .left)
     (seven .if5 .left)

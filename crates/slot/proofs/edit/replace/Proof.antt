@@ -24,7 +24,8 @@ returns : tie.Need-returns
 unfolding zeros
 returns c =
     let s =
-    c .before .before .before .before .before .before .before .before .before .before .before .before .before .before .before .before in
+    c .before .before .before .before .before .before .before .before .before
+    .before .before .before .before .before .before .before in
     let k = c .before .before .before .before .before .before .before .before .compose in
     accepted-slot (now (s .args .words)) (now (s .args .list)) (s .args .total) (s .pre) _ _ _ (k .result .number)
     (k .result .place)

@@ -1,7 +1,7 @@
--- `compose::places::narrow` meets its contract. Assumes nothing.
+-- `compose::adjustment::narrow` meets its contract. Assumes nothing.
 use borrow.Author.Needs.{needs}
-use Rattle.compose.proofs.places.narrow.Statement.{statement}
-use Rattle.compose.proofs.places.narrow.Tie as tie
+use Rattle.compose.proofs.adjustment.narrow.Statement.{statement}
+use Rattle.compose.proofs.adjustment.narrow.Tie as tie
 
 returns : tie.Need-returns
 returns c = search needs

@@ -1,7 +1,7 @@
--- `compose::places::line_kind` meets its contract. Assumes nothing.
+-- `compose::adjustment::line_kind` meets its contract. Assumes nothing.
 use Rattle.rules.specs.Adjustment.{kindOf}
-use Rattle.compose.proofs.places.line_kind.Statement.{statement}
-use Rattle.compose.proofs.places.line_kind.Tie as tie
+use Rattle.compose.proofs.adjustment.line_kind.Statement.{statement}
+use Rattle.compose.proofs.adjustment.line_kind.Tie as tie
 
 returns : tie.Need-returns
 unfolding kindOf

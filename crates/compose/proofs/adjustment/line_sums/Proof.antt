@@ -1,4 +1,4 @@
--- `compose::places::line_sums` meets its contract: at each turn the sums, with what is left of the line, are the
+-- `compose::adjustment::line_sums` meets its contract: at each turn the sums, with what is left of the line, are the
 -- line's. Assumes nothing.
 use mathlib.Core.Path.{refl}
 use Prim.Native.Nat.{_-_, _<_}
@@ -6,8 +6,8 @@ use native.Mathlib.Omega.{arith}
 use borrow.Author.Needs.{needs}
 use Rattle.rules.specs.Values.{gapFrom}
 use Rattle.compose.proofs.Sums.{Summing, sum-start, sum-last, sum-limits, sum-fits, sum-more}
-use Rattle.compose.proofs.places.line_sums.Statement.{statement}
-use Rattle.compose.proofs.places.line_sums.Tie as tie
+use Rattle.compose.proofs.adjustment.line_sums.Statement.{statement}
+use Rattle.compose.proofs.adjustment.line_sums.Tie as tie
 
 abbrev Inv-loop : tie.InvT-loop
 Inv-loop ws units gaps i j advances₀ total₀ a₀ next₀ advances total a next =

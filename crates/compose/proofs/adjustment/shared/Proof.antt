@@ -1,10 +1,10 @@
--- `compose::places::shared` meets its contract. Assumes nothing.
+-- `compose::adjustment::shared` meets its contract. Assumes nothing.
 use native.Mathlib.Nat.{zero-mul, mul-zero, zero-div}
 use native.Mathlib.Omega.{arith}
 use borrow.Author.Needs.{needs}
 use Rattle.compose.proofs.Floors.{floor-within, product-fits}
-use Rattle.compose.proofs.places.shared.Statement.{statement}
-use Rattle.compose.proofs.places.shared.Tie as tie
+use Rattle.compose.proofs.adjustment.shared.Statement.{statement}
+use Rattle.compose.proofs.adjustment.shared.Tie as tie
 
 returns : tie.Need-returns
 returns c = rw (c .if1 .taken, zero-mul, zero-div)

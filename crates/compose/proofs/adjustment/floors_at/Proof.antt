@@ -1,7 +1,7 @@
--- `compose::places::floors_at` meets its contract. Assumes nothing.
+-- `compose::adjustment::floors_at` meets its contract. Assumes nothing.
 use borrow.Author.Needs.{needs}
-use Rattle.compose.proofs.places.floors_at.Statement.{statement}
-use Rattle.compose.proofs.places.floors_at.Tie as tie
+use Rattle.compose.proofs.adjustment.floors_at.Statement.{statement}
+use Rattle.compose.proofs.adjustment.floors_at.Tie as tie
 
 shared-requires : tie.Need-shared-requires
 shared-requires c κs = search needs

@@ -1,8 +1,8 @@
--- `compose::places::line_amounts` meets its contract. Assumes nothing.
+-- `compose::adjustment::line_amounts` meets its contract. Assumes nothing.
 use borrow.Author.Needs.{needs}
 use Rattle.rules.specs.Adjustment.{amounts}
-use Rattle.compose.proofs.places.line_amounts.Statement.{statement}
-use Rattle.compose.proofs.places.line_amounts.Tie as tie
+use Rattle.compose.proofs.adjustment.line_amounts.Statement.{statement}
+use Rattle.compose.proofs.adjustment.line_amounts.Tie as tie
 
 over-requires : tie.Need-over-requires
 over-requires c κs = search needs

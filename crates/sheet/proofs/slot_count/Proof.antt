@@ -1,0 +1,17 @@
+-- `sheet::slot_count` meets its contract. Assumes nothing.
+use borrow.Author.Needs.{needs}
+use Rattle.sheet.proofs.Entry.{none-beside, some-exact, none-inexact}
+use Rattle.sheet.proofs.slot_count.Statement.{statement}
+use Rattle.sheet.proofs.slot_count.Tie as tie
+
+returns : tie.Need-returns
+returns c = none-beside (c .before .args .len) (c .if1 .taken)
+
+returns-2 : tie.Need-returns-2
+returns-2 c = some-exact (c .before .before .args .len) (c .before .if1 .left) (c .if2 .taken)
+
+returns-3 : tie.Need-returns-3
+returns-3 c = none-inexact (c .before .before .args .len) (c .before .if1 .left) (c .if2 .left)
+
+pub slot-count-spec : {M : Type 1} → statement M
+slot-count-spec = tie.close (tie.spec returns (λ c. search needs) returns-2 returns-3)
