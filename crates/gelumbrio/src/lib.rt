@@ -6,9 +6,8 @@ use sheet::Part;
 use sheet::RubyPlace;
 use sheet::SlotNumber;
 ghost use mathlib.Core.Path.{_≡_};
-ghost use Prim.Native.Nat.{_+_};
 ghost use Rattle.rules.specs.Groups.{rubyPlace};
-ghost use Rattle.rules.specs.Refusals.{says, setUp, edit, readNumber, readStart, readLength};
+ghost use Rattle.rules.specs.Refusals.{says, setUp, edit, readNumber, readPart};
 
 #[no_mangle]
 pub extern "C" fn gelumbrio_set_up(
@@ -48,9 +47,7 @@ pub extern "C" fn gelumbrio_read_number(sheet: &[u32], caller: Clinic, slot: Slo
 // The part is told by its start and end, since an export cannot return a reference.
 #[no_mangle]
 pub extern "C" fn gelumbrio_read(sheet: &[u32], caller: Clinic, slot: SlotNumber) -> Part
-    ensures { λ r. ⌜ (r .start ≡ readStart (now (sheet .entry)) (caller .0) (slot .0))
-        × (r .end ≡ readStart (now (sheet .entry)) (caller .0) (slot .0)
-        + readLength (now (sheet .entry)) (caller .0) (slot .0)) ⌝ }
+    ensures { λ r. ⌜ (r .start, r .end) ≡ readPart (now (sheet .entry)) (caller .0) (slot .0) ⌝ }
 {
     sheet::read_part(sheet, caller, slot)
 }

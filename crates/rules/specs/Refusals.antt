@@ -112,6 +112,10 @@ readStart ws caller k = cond (eqb (readNumber ws caller k) 0) (2824 * k + 2056) 
 unfoldable pub readLength : List ℕ → ℕ → ℕ → ℕ
 readLength ws caller k = cond (eqb (readNumber ws caller k) 0) (3 * lineCountOf (slotAt ws k)) 0
 
+-- by start and end
+abbrev pub readPart : List ℕ → ℕ → ℕ → ℕ × ℕ
+readPart ws caller k = (readStart ws caller k, readStart ws caller k + readLength ws caller k)
+
 unfoldable pub readWords : List ℕ → ℕ → ℕ → List ℕ
 readWords ws caller k = take (readLength ws caller k) (drop (readStart ws caller k) ws)
 

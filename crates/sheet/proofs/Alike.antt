@@ -46,7 +46,9 @@ module _ (ws vs : List ℕ) (caller k : ℕ) (a : Alike caller k ws vs) where
   same-called = called-alike ws vs caller k (a .same-length) (a .same-clinic)
 
   same-slot : called ws caller k .number ≡ 0 → slotAt ws k ≡ slotAt vs k
-  same-slot z = a .same-words (entered-within ws caller k z) (entered ws caller k z .own)
+  same-slot z =
+      let e = entered ws caller k z in
+      a .same-words (entered-within ws caller k z) (e .known) (e .own)
 
   edit-alike : (place deleted : ℕ) (inserted : List ℕ) →
       edit ws caller k place deleted inserted .0 ≡ edit vs caller k place deleted inserted .0

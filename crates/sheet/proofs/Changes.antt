@@ -4,7 +4,7 @@ use Prim.Native.Nat.{ℕ, _+_, _-_, _≤_}
 use native.Mathlib.Omega.{arith}
 use mathlib.Core.Bool.{true}
 use mathlib.Core.List.{List}
-use mathlib.Core.Logic.{_⊎_, inl, inr, _↔_}
+use mathlib.Core.Logic.{_↔_}
 use mathlib.Core.Option.{Option, none, some}
 use lib.Dec.{ltb}
 use lib.ListN.{length, drop}
@@ -20,14 +20,14 @@ use Rattle.rules.specs.Refusals.{Answer, says, Outcome, orElse, judged, edited,
 use Rattle.rules.specs.Refusals.{callRows, called, edit, readNumber, readWords}
 use Rattle.rules.specs.Meanings.{Choice, Fits, FirstWide}
 use Rattle.rules.proofs.Claims.{no-10-exactly, answer-10}
-use Rattle.sheet.specs.Meanings.{Spliced}
+use Rattle.sheet.specs.Meanings.{NoEarlier, Spliced}
 use Rattle.sheet.proofs.Tables.{same-number, lacking, passed, under-table}
 use Rattle.sheet.proofs.Entry.{or-right, number-0, read-slot}
 use Rattle.rules.proofs.Lengths.{composed-few}
 use Rattle.sheet.proofs.Words.{slot-records, slot-clinic, slot-line-count, slot-lines}
-use Rattle.sheet.proofs.Slots.{length-records}
+use Rattle.rules.proofs.Words.{length-records}
 use Rattle.sheet.proofs.Alike.{called-alike}
-use Rattle.sheet.proofs.Frame.{Edited, entering, refusing, edit-cases, edit-length, edited-few}
+use Rattle.sheet.proofs.Frame.{Edited, entering, refusing, edit-cases, edit-entering, edit-length, edited-few}
 use Rattle.sheet.proofs.Frame.{room, length-outcome, slot-with}
 
 -- Judged ------------------------------------------------------------------------------------------------------------
@@ -194,16 +194,39 @@ module _ (ws : List ℕ) (caller k place deleted : ℕ) (inserted : List ℕ) wh
       let j = slot-judged before place deleted inserted 10 refl (f .number) .answer in
       judged-10 m x _ (same-number (sym j) ∙ f .number) ∙ ap (λ (a : Answer). some (a .place)) (sym (f .answer ∙ j))
 
-  -- where no earlier answer is given, 10 is given exactly where no choice of permitted breaks fits the measure
+  -- where no earlier answer is due, 10 is given exactly where no choice of permitted breaks fits the measure, and 0
+  -- exactly where one does
   abbrev pub Breakable : Type 0
   Breakable = (ls : List (Run TextUnit)) × Choice us ls × Fits m x ls
 
-  pub exactly-10 : (out .0 .number ≡ 0) ⊎ (out .0 .number ≡ 10) → (out .0 .number ≡ 10) ↔ (Breakable → ⊥)
-  exactly-10 (inl z) = (
-    λ e. absurd (omega (arith, e, z)),
-    λ h. absurd (h (no-10-exactly m x us .0 (found-0 z))),
-  )
-  exactly-10 (inr z) = (λ e. answer-10 m x us _ (found-10 z) .0, λ h. z)
+  due-10 : NoEarlier ws caller k place deleted inserted →
+      out .0 ≡ orElse 10 (noBreaking m x us) (says 0 (length (compose m x us)))
+  unfolding slotRows editSlot judged
+  due-10 h =
+      let rows = slotRows before place deleted inserted in
+      ap (λ (o : Outcome). o .0) (edit-entering ws caller k place deleted inserted (h .call))
+      ∙ under-table rows _ (passed 0 rows (says 0 0) refl (h .slot) .0)
+      ∙ rw (h .records, h .groups)
+
+  pub exactly-10 : NoEarlier ws caller k place deleted inserted →
+      ((out .0 .number ≡ 10) ↔ (Breakable → ⊥)) × ((out .0 .number ≡ 0) ↔ Breakable)
+  exactly-10 h = from (noBreaking m x us) refl (due-10 h)
+    where
+      from : (o : Option ℕ) → noBreaking m x us ≡ o →
+          out .0 ≡ orElse 10 o (says 0 (length (compose m x us))) →
+          ((out .0 .number ≡ 10) ↔ (Breakable → ⊥)) × ((out .0 .number ≡ 0) ↔ Breakable)
+      from none e a =
+          let b : Breakable = no-10-exactly m x us .0 e in
+          let z = same-number a in (
+            (λ t. absurd (omega (arith, t, z)), λ f. absurd (f b)),
+            (λ t. b, λ b. z),
+          )
+      from (some i) e a =
+          let f : Breakable → ⊥ = answer-10 m x us i e .0 in
+          let z = same-number a in (
+            (λ t. f, λ f. z),
+            (λ t. absurd (omega (arith, t, z)), λ b. absurd (f b)),
+          )
 
   -- and its place is the first record of the first run that is too wide
   pub place-10 : out .0 .number ≡ 10 → FirstWide m x (runs us) (out .0 .place)

@@ -3,34 +3,36 @@
 -- proofs/Runs.antt and at the top of proofs/Histories.antt; the rules in crate `rules`, whose own proofs/Claims.antt
 -- has what is proved of them alone. Assumes nothing.
 use mathlib.Core.Path.{_≡_, refl}
-use Prim.Native.Nat.{ℕ, _*_}
-use mathlib.Core.List.{List, _∷_}
-use mathlib.Core.Logic.{_⊎_, _↔_}
+use Prim.Native.Nat.{ℕ, _-_, _*_}
+use mathlib.Core.List.{List, []}
+use mathlib.Core.Logic.{_↔_}
 use lib.ListN.{length, getD, take, drop}
 use Rattle.rules.specs.Basics.{Run as RunOf}
 use Rattle.rules.specs.Groups.{TextUnit, units}
 use Rattle.rules.specs.Breaks.{runs, breaking}
 use Rattle.rules.specs.Adjustment.{compose}
 use Rattle.rules.specs.Sheet.{lineWords, lineCountOf, measureOf, indentOf, slotAt}
-use Rattle.rules.specs.Refusals.{Answer, edited, edit, readNumber, readWords}
+use Rattle.rules.specs.Refusals.{Answer, edited, edit, readNumber, readPart, readWords}
 use Rattle.rules.specs.Meanings.{Choice, Fits, Longest, FirstWide}
 use Rattle.rules.proofs.Claims.{lines-chosen}
 use Rattle.sheet.specs.Book.{Call, call-edit, call-read, Reply, numberOf, step}
-use Rattle.sheet.specs.Meanings.{Outside, AlikeFor, Spliced}
+use Rattle.sheet.specs.Meanings.{Outside, AlikeFor, NoEarlier, Spliced}
 use Rattle.sheet.specs.declared.Clinic.{Clinic}
 use Rattle.sheet.specs.declared.SlotNumber.{SlotNumber}
-use Rattle.sheet.proofs.Entry.{read-slot}
+use Rattle.sheet.proofs.Entry.{read-slot, read-none, part-words}
 use Rattle.sheet.proofs.Frame.{edit-frame, refused-unchanged, step-length}
 use Rattle.sheet.proofs.Changes.{accepted-edit, read-after, found-0, exactly-10, place-10}
 use Rattle.sheet.proofs.Alike.{same-reply}
-use Rattle.sheet.proofs.Runs.{SetUpRun, Run, set-up-run, call, before, after, reply, Chained, told}
-use Rattle.sheet.proofs.Histories.{AsBooked, as-booked}
+use Rattle.sheet.proofs.Runs.{Run, call, before, after, reply, Chained, told}
+use Rattle.sheet.proofs.Histories.{Begun, AsBooked, as-booked}
 use Rattle.sheet.proofs.setting.set_up.Statement as set-up-contract
 use Rattle.sheet.proofs.setting.set_up.Met as set-up-met
 use Rattle.sheet.proofs.edit.Statement as edit-contract
 use Rattle.sheet.proofs.edit.Met as edit-met
 use Rattle.sheet.proofs.read.Statement as read-contract
 use Rattle.sheet.proofs.read.Met as read-met
+use Rattle.sheet.proofs.read_part.Statement as read-part-contract
+use Rattle.sheet.proofs.read_part.Met as read-part-met
 use Rattle.sheet.proofs.read_number.Statement as read-number-contract
 use Rattle.sheet.proofs.read_number.Met as read-number-met
 
@@ -45,6 +47,9 @@ edit-meets = edit-met.met
 
 pub read-meets : {M : Type 1} → read-contract.statement M
 read-meets = read-met.met
+
+pub read-part-meets : {M : Type 1} → read-part-contract.statement M
+read-part-meets = read-part-met.met
 
 pub read-number-meets : {M : Type 1} → read-number-contract.statement M
 read-number-meets = read-number-met.met
@@ -88,9 +93,11 @@ module _ (ws : List ℕ) (caller k place deleted : ℕ) (inserted : List ℕ) wh
       Choice us (breaking m x (runs us)) × Fits m x (breaking m x (runs us)) × Longest m x (breaking m x (runs us))
   edit-lines h = lines-chosen m x us (found-0 ws caller k place deleted inserted h)
 
-  -- where no earlier answer is given, 10 is given exactly where no choice of permitted breaks fits
-  pub edit-10-exactly : (answer .number ≡ 0) ⊎ (answer .number ≡ 10) →
-      (answer .number ≡ 10) ↔ (((ls : List (RunOf TextUnit)) × Choice us ls × Fits m x ls) → ⊥)
+  -- where no earlier answer is due, 10 is given exactly where no choice of permitted breaks fits, and the edit accepted
+  -- exactly where one does
+  pub edit-10-exactly : NoEarlier ws caller k place deleted inserted →
+      let fitting = (ls : List (RunOf TextUnit)) × Choice us ls × Fits m x ls in
+      ((answer .number ≡ 10) ↔ (fitting → ⊥)) × ((answer .number ≡ 0) ↔ fitting)
   edit-10-exactly h = exactly-10 ws caller k place deleted inserted h
 
   -- at the first record of the first run that is too wide
@@ -107,12 +114,22 @@ pub read-hands-back : (ws : List ℕ) (caller k : ℕ) → readNumber ws caller 
     readWords ws caller k ≡ take (3 * lineCountOf (slotAt ws k)) (drop 2056 (slotAt ws k))
 read-hands-back ws caller k h = read-slot ws caller k h
 
+-- a refused one hands back nothing
+pub read-hands-none : (ws : List ℕ) (caller k : ℕ) → (readNumber ws caller k ≡ 0 → ⊥) → readWords ws caller k ≡ []
+read-hands-none ws caller k h = read-none ws caller k h
+
+-- the part that the export tells by start and end is the same words
+pub read-part-words : (ws : List ℕ) (caller k : ℕ) →
+    let p = readPart ws caller k in
+    take (p .1 - p .0) (drop (p .0) ws) ≡ readWords ws caller k
+read-part-words ws caller k = part-words ws caller k
+
 -- Demand 3: sequences of calls, an edit's reach, and two sheets ------------------------------------------------------
 
--- a sequence of runs that begins with an accepted set-up on a sheet of any words: one claim about the whole of it
-pub demand-3 : (ws : List ℕ) (u : SetUpRun) (rs : List Run) → u .result .number ≡ 0 → Chained ws (set-up-run u ∷ rs) →
-    AsBooked ws (set-up-run u ∷ rs)
-demand-3 ws u rs h c = as-booked ws u rs h c
+-- a sequence of runs, on a sheet of any words, that begins with an accepted set-up or with refused ones before it: one
+-- claim about the whole of it
+pub demand-3 : (ws : List ℕ) (rs : List Run) → Begun rs → Chained ws rs → AsBooked ws rs
+demand-3 ws rs b c = as-booked ws rs b c
 
 -- an edit changes no word outside the named slot, and a read none at all
 pub edit-reach : (ws : List ℕ) (caller : Clinic) (k : SlotNumber) (place deleted : ℕ) (inserted : List ℕ) →

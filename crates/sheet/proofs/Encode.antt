@@ -23,9 +23,10 @@ use Rattle.sheet.proofs.Words.{length-slot, slot-clinic, slot-fresh}
 
 -- Well-formed books -------------------------------------------------------------------------------------------------
 
--- a slot within its limits, whose records are at most 256 and fall under none of 8, 9 and 10
+-- a slot within its limits, whose records are at most 256 and fall under none of 8, 9 and 10; an unassigned one has none
 pub record Sound (s : BookSlot) : Type 0 where
   pub limits : slotLimitsOk (s .clinic) (s .measure) (s .indent) ≡ true
+  pub unassigned : s .clinic ≡ 0 → s .records ≡ []
   pub few : length (s .records) ≤ 256
   pub right : judged (s .measure) (s .indent) (s .records) .number ≡ 0
 
@@ -122,7 +123,7 @@ none-right m x = refl
 
 sound-none : (c m x : ℕ) → slotLimitsOk c m x ≡ true →
     Sound (record { clinic = c; measure = m; indent = x; records = [] })
-sound-none c m x t = record { limits = t; few = omega arith; right = none-right m x }
+sound-none c m x t = record { limits = t; unassigned = λ e. refl; few = omega arith; right = none-right m x }
 
 module _ (cs ms xs : List ℕ) where
   pub encode-empty : (k n : ℕ) → freshSlots k cs ms xs n ≡ encode (emptySlots k cs ms xs n)

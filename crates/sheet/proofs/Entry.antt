@@ -16,7 +16,7 @@ use borrow.Author.Tests.{eqb-true, eqb-false, eq-eqb, ne-eqb, not-false}
 use Rattle.rules.specs.Basics.{within}
 use Rattle.rules.specs.Sheet.{clinicOf, lineCountOf, slotCount, lengthOk, slotAt, withSlot}
 use Rattle.rules.specs.Refusals.{Answer, says, Outcome, callRows, called, editSlot, edit}
-use Rattle.rules.specs.Refusals.{readNumber, readStart, readLength, readWords}
+use Rattle.rules.specs.Refusals.{readNumber, readStart, readLength, readPart, readWords}
 use Rattle.rules.proofs.Facts.{tested, true-false}
 use Rattle.rules.proofs.Limits.{and-left, and-right}
 use Rattle.sheet.proofs.Tables.{passed}
@@ -291,3 +291,11 @@ module _ (ws : List ℕ) (caller k : ℕ) where
   pub read-none : (readNumber ws caller k ≡ 0 → ⊥) → readWords ws caller k ≡ []
   unfolding readWords
   read-none z = let r = read-refused z in rw (r .0, r .1)
+
+  -- by its start and end
+  pub part-words : let p = readPart ws caller k in take (p .1 - p .0) (drop (p .0) ws) ≡ readWords ws caller k
+  unfolding readWords
+  part-words =
+      let n : readStart ws caller k + readLength ws caller k - readStart ws caller k ≡ readLength ws caller k
+      = omega arith in
+      rw n

@@ -20,7 +20,8 @@ use Rattle.sheet.proofs.Entry.{entered}
 use Rattle.sheet.proofs.Lists.{accepted}
 use Rattle.sheet.proofs.Fresh.{length-fresh-slots}
 use Rattle.sheet.proofs.Words.{length-slot}
-use Rattle.sheet.proofs.Slots.{length-records, splice-few}
+use Rattle.rules.proofs.Words.{length-records}
+use Rattle.sheet.proofs.Slots.{splice-few}
 
 -- An edit of one slot -----------------------------------------------------------------------------------------------
 

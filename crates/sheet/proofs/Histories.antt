@@ -1,4 +1,4 @@
--- Demand 3 of a whole sequence of runs that begins with an accepted set-up on a sheet of any words. Assumes nothing.
+-- Demand 3 of a whole sequence of runs, on a sheet of any words, from the first accepted set-up on. Assumes nothing.
 use mathlib.Core.Path.{_≡_, refl, sym, ap, subst, _∙_}
 use Prim.Native.Nat.{ℕ, _<_}
 use native.Mathlib.Omega.{arith}
@@ -10,15 +10,16 @@ use borrow.Author.Tests.{eq-eqb, ne-eqb}
 use denote.Ref.{now}
 use Rattle.rules.specs.Records.{recordWords}
 use Rattle.rules.specs.Sheet.{clinicOf, lengthOk, slotCount, slotAt, withSlot}
-use Rattle.rules.specs.Refusals.{Answer, Outcome, judged, called, editSlot, edit, setUpAnswer, setUp}
+use Rattle.rules.specs.Refusals.{Answer, says, Outcome, judged, called, editSlot, edit, setUpAnswer, setUp}
 use Rattle.rules.specs.Meanings.{All}
-use Rattle.sheet.specs.Book.{BookSlot, bookAt, Reply, numberOf, freshSlot, single, encodeSlot, inWords, runBook}
+use Rattle.sheet.specs.Book.{BookSlot, bookAt, Reply, answered, numberOf, step, freshSlot, single, encodeSlot}
+use Rattle.sheet.specs.Book.{inWords, runBook}
 use Rattle.sheet.proofs.Tables.{same-number}
 use Rattle.sheet.proofs.Entry.{called-0}
 use Rattle.sheet.proofs.Encode.{Sound, WellFormed, all-at, length-encode-slot, slot-of}
 use Rattle.sheet.proofs.Slots.{single-edit, single-is}
-use Rattle.sheet.proofs.Sequences.{begins-book, remains, whole-sequence, restarts, never-4}
-use Rattle.sheet.proofs.Frame.{edit-entering, room, slot-with, step-length}
+use Rattle.sheet.proofs.Sequences.{begins-book, refused-book, remains, whole-sequence, restarts, never-4}
+use Rattle.sheet.proofs.Frame.{edit-entering, room, slot-with, refused-unchanged, step-length}
 use Rattle.sheet.proofs.Runs.{SetUpRun, Run, set-up-run, call, before, after, reply}
 use Rattle.sheet.proofs.Runs.{Chained, final, told, runs-are}
 
@@ -27,13 +28,21 @@ abbrev pub booked : ℕ → List Run → List Reply × List BookSlot
 booked n rs = runBook n (map call rs) []
 
 -- the words w of a slot s are those of the single edit; and on any sheet vs with such a fresh slot j, the edit call by
--- the slot's clinic, at place 0, that deletes nothing and inserts the words of all records, is accepted and leaves w
+-- the slot's clinic, at place 0, that deletes nothing and inserts the words of all records, is accepted and leaves w.
+-- An unassigned slot has no clinic to call, and no records
 pub record BySingleEdit (s : BookSlot) (w : List ℕ) : Type 0 where
   pub slot : single s ≡ w
+  pub unassigned : s .clinic ≡ 0 → s .records ≡ []
   pub call : (vs : List ℕ) (j : ℕ) → lengthOk (length vs) ≡ true → j < slotCount vs → slotAt vs j ≡ freshSlot s →
       (s .clinic ≡ 0 → ⊥) →
       let o = edit vs (s .clinic) j 0 0 (recordWords (s .records)) in
       (o .0 .number ≡ 0) × (slotAt (o .1) j ≡ w)
+
+-- sequences that begin with an accepted set-up, after refused ones or none
+pub data Begun : List Run → Type 0 where
+  accepted-first : {u : SetUpRun} {rs : List Run} → u .result .number ≡ 0 → Begun (set-up-run u ∷ rs)
+  refused-first : {u : SetUpRun} {rs : List Run} → (u .result .number ≡ 0 → ⊥) → Begun rs →
+      Begun (set-up-run u ∷ rs)
 
 pub record AsBooked (ws : List ℕ) (rs : List Run) : Type 0 where
   -- every call answers what the book answers
@@ -75,6 +84,7 @@ module _ (s : BookSlot) (h : Sound s) where
   by-single-edit =
       record {
         slot = sym (single-is s h);
+        unassigned = h .unassigned;
         call = λ vs j ok within e known.
             let z = entered-by vs j ok within e known in
             let f = call-edits vs j ok within e z in
@@ -102,8 +112,8 @@ length-before [] r ts ws h = ap length (h .0)
 length-before (q ∷ qs) r ts ws h =
     length-before qs r ts (after q) (h .1) ∙ final-length (q ∷ []) ws (h .0, tt)
 
--- the lists of a run of set-up, and that it was accepted
-module _ (u : SetUpRun) (z : u .result .number ≡ 0) where
+-- what a run of set-up answered, by its lists
+module _ (u : SetUpRun) where
   abbrev clinics : List ℕ
   clinics = now (u .args .1 .0)
 
@@ -113,55 +123,89 @@ module _ (u : SetUpRun) (z : u .result .number ≡ 0) where
   abbrev indents : List ℕ
   indents = now (u .args .1 .1 .1 .0)
 
-  accepted-run : (n : ℕ) → length (before (set-up-run u)) ≡ n → setUpAnswer n clinics measures indents .number ≡ 0
-  unfolding setUp
-  accepted-run n e = rw (← e) (ap (λ (o : Outcome). o .0 .number) (sym (u .learnt)) ∙ z)
+  abbrev said : Answer
+  said = says (u .result .number) (u .result .place)
 
-module _ (ws : List ℕ) (u : SetUpRun) (rs : List Run) (z : u .result .number ≡ 0)
-    (h : Chained ws (set-up-run u ∷ rs)) where
+  set-up-said : (n : ℕ) → length (before (set-up-run u)) ≡ n → said ≡ setUpAnswer n clinics measures indents
+  unfolding setUp
+  set-up-said n e = rw (← e) (ap (λ (o : Outcome). o .0) (u .learnt))
+
+-- what all of `AsBooked` follows from: the replies and the words are a well-formed book's
+record Kept (ws : List ℕ) (rs : List Run) : Type 0 where
+  pub well : WellFormed (length ws) (booked (length ws) rs .1)
+  pub same : _≡_ {A = List Reply × List ℕ} (map reply rs, final ws rs) (inWords (booked (length ws) rs))
+
+-- from an accepted set-up on
+kept-accepted : (ws : List ℕ) (u : SetUpRun) (rs : List Run) → u .result .number ≡ 0 →
+    Chained ws (set-up-run u ∷ rs) → Kept ws (set-up-run u ∷ rs)
+kept-accepted ws u rs z h =
+    let n = length ws in
+    let ok = sym (same-number (set-up-said u n (ap length (h .0)))) ∙ z in
+    record {
+      well = remains n (map call rs) _ (begins-book n (clinics u) (measures u) (indents u) ok []);
+      same = runs-are (set-up-run u ∷ rs) ws h
+          ∙ whole-sequence n (clinics u) (measures u) (indents u) ok ws [] refl (map call rs);
+    }
+
+-- a refused set-up changes neither sheet nor book
+kept-refused : (ws : List ℕ) (u : SetUpRun) (rs : List Run) → (u .result .number ≡ 0 → ⊥) →
+    Chained ws (set-up-run u ∷ rs) → (Chained ws rs → Kept ws rs) → Kept ws (set-up-run u ∷ rs)
+kept-refused ws u rs z h rest =
+    let n = length ws in
+    let r = set-up-run u in
+    let a = set-up-said u n (ap length (h .0)) in
+    let no : setUpAnswer n (clinics u) (measures u) (indents u) .number ≡ 0 → ⊥ = λ e. z (same-number a ∙ e) in
+    let t : (reply r, after r) ≡ step (call r) ws = rw (h .0) at (told r) in
+    let unchanged : after r ≡ ws
+    = ap (λ (o : Reply × List ℕ). o .1) t
+    ∙ refused-unchanged (call r) ws (λ e. z (ap (λ (o : Reply × List ℕ). numberOf (o .0)) t ∙ e)) in
+    let k = rest (subst (λ vs. Chained vs rs) unchanged (h .1)) in
+    let book : booked n (r ∷ rs) ≡ (reply r ∷ booked n rs .0, booked n rs .1)
+    = ap
+    (λ (o : Reply × List BookSlot). let l = runBook n (map call rs) (o .1) in (o .0 ∷ l .0, l .1))
+    (refused-book n (clinics u) (measures u) (indents u) [] no ∙ ap (λ (o : Answer). (answered o, [])) (sym a)) in
+    record {
+      well = rw book (k .well);
+      same = ap (λ vs. (reply r ∷ map reply rs, final vs rs)) unchanged
+          ∙ ap (λ (o : List Reply × List ℕ). (reply r ∷ o .0, o .1)) (k .same)
+          ∙ ap (λ (o : List Reply × List BookSlot). inWords o) (sym book);
+    }
+
+kept : (ws : List ℕ) (rs : List Run) → Begun rs → Chained ws rs → Kept ws rs
+kept ws (set-up-run u ∷ rs) (accepted-first z) h = kept-accepted ws u rs z h
+kept ws (set-up-run u ∷ rs) (refused-first z b) h = kept-refused ws u rs z h (kept ws rs b)
+
+module _ (ws : List ℕ) (rs : List Run) (b : Begun rs) (h : Chained ws rs) where
   abbrev n : ℕ
   n = length ws
 
-  abbrev whole : List Run
-  whole = set-up-run u ∷ rs
-
   abbrev book : List BookSlot
-  book = booked n whole .1
+  book = booked n rs .1
 
-  ok : setUpAnswer n (clinics u z) (measures u z) (indents u z) .number ≡ 0
-  ok = accepted-run u z n (ap length (h .0))
-
-  well : WellFormed n book
-  well = remains n (map call rs) _ (begins-book n (clinics u z) (measures u z) (indents u z) ok [])
-
-  same : _≡_ {A = List Reply × List ℕ} (map reply whole, final ws whole) (inWords (booked n whole))
-  same =
-      runs-are whole ws h
-      ∙ whole-sequence n (clinics u z) (measures u z) (indents u z) ok ws [] refl (map call rs)
-
-  slot-is : (k : ℕ) → k < slotCount ws → BySingleEdit (bookAt book k) (slotAt (final ws whole) k)
+  slot-is : (k : ℕ) → k < slotCount ws → BySingleEdit (bookAt book k) (slotAt (final ws rs) k)
   slot-is k within =
-      let here : k < length book = omega (arith, well .exact) in
-      let e : slotAt (final ws whole) k ≡ encodeSlot (bookAt book k)
-      = ap (λ (o : List Reply × List ℕ). slotAt (o .1) k) same ∙ slot-of book (well .sound) k here in
-      rw e (by-single-edit (bookAt book k) (all-at (well .sound) k _ here))
+      let g = kept ws rs b h in
+      let here : k < length book = omega (arith, g .well .exact) in
+      let e : slotAt (final ws rs) k ≡ encodeSlot (bookAt book k)
+      = ap (λ (o : List Reply × List ℕ). slotAt (o .1) k) (g .same) ∙ slot-of book (g .well .sound) k here in
+      rw e (by-single-edit (bookAt book k) (all-at (g .well .sound) k _ here))
 
-  starts-anew : (qs : List Run) (v : SetUpRun) (ts : List Run) → whole ≡ qs ++ set-up-run v ∷ ts →
+  starts-anew : (qs : List Run) (v : SetUpRun) (ts : List Run) → rs ≡ qs ++ set-up-run v ∷ ts →
       v .result .number ≡ 0 →
       let o = booked n (set-up-run v ∷ ts) in
-      booked n whole ≡ (booked n qs .0 ++ o .0, o .1)
+      booked n rs ≡ (booked n qs .0 ++ o .0, o .1)
   starts-anew qs v ts e y =
-      let accepted = accepted-run v y n (length-before qs (set-up-run v) ts ws (subst (Chained ws) e h)) in
+      let a = set-up-said v n (length-before qs (set-up-run v) ts ws (subst (Chained ws) e h)) in
       ap (λ cs. runBook n cs []) (ap (map call) e ∙ map-append call qs (set-up-run v ∷ ts))
-      ∙ restarts n (map call qs) (clinics v y) (measures v y) (indents v y) (map call ts) [] accepted
+      ∙ restarts n (map call qs) (clinics v) (measures v) (indents v) (map call ts) [] (sym (same-number a) ∙ y)
 
-  pub as-booked : AsBooked ws (set-up-run u ∷ rs)
+  pub as-booked : AsBooked ws rs
   as-booked =
-      let answers : map reply whole ≡ booked n whole .0 = ap (λ (o : List Reply × List ℕ). o .0) same in
+      let answers : map reply rs ≡ booked n rs .0 = ap (λ (o : List Reply × List ℕ). o .0) (kept ws rs b h .same) in
       record {
         answers = answers;
-        whole = final-length whole ws h;
+        whole = final-length rs ws h;
         slots = slot-is;
         anew = starts-anew;
-        never = rw answers (never-4 n (map call whole) []);
+        never = rw answers (never-4 n (map call rs) []);
       }

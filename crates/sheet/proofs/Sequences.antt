@@ -6,7 +6,7 @@ use native.Mathlib.Omega.{arith}
 use mathlib.Core.List.{List, [], _∷_, _++_}
 use mathlib.Core.Option.{Option, none, some}
 use lib.ListN.{length}
-use borrow.Author.Tests.{eq-eqb}
+use borrow.Author.Tests.{eq-eqb, ne-eqb}
 use Rattle.rules.specs.Records.{Rec, badRecord}
 use Rattle.rules.specs.Groups.{groupFault, units}
 use Rattle.rules.specs.Breaks.{noBreaking}
@@ -14,7 +14,7 @@ use Rattle.rules.specs.Refusals.{Answer, says, orElse, judged, badSlot, setUpAn
 use Rattle.rules.specs.Meanings.{All, all-none, all-more}
 use Rattle.sheet.specs.Book.{Call, call-set-up, call-edit, call-read, Reply, numberOf, step, runSheet, runBook}
 use Rattle.sheet.specs.Book.{BookSlot, bookAt, bookSetUp, bookCallRows, bookEditRows, bookAnswer, bookEdit}
-use Rattle.sheet.specs.Book.{bookRead, bookStep, encode, inWords}
+use Rattle.sheet.specs.Book.{answered, bookRead, bookStep, encode, inWords}
 use Rattle.sheet.proofs.Tables.{passed}
 use Rattle.sheet.proofs.Lists.{misfit}
 use Rattle.sheet.proofs.Encode.{WellFormed, encode-empty}
@@ -57,6 +57,12 @@ module _ (n : ℕ) (cs ms xs : List ℕ) (z : setUpAnswer n cs ms xs .number ≡
       let o = bookStep n (call-set-up cs ms xs) b in
       ap (λ (p : Reply × List ℕ). (p .0 ∷ runSheet ds (p .1) .0, runSheet ds (p .1) .1)) (begins ws b e)
       ∙ ap (λ (l : List Reply × List ℕ). (o .0 ∷ l .0, l .1)) (sequence n ds (o .1) (begins-book b))
+
+-- a refused set-up changes nothing in the book
+pub refused-book : (n : ℕ) (cs ms xs : List ℕ) (b : List BookSlot) → (setUpAnswer n cs ms xs .number ≡ 0 → ⊥) →
+    bookStep n (call-set-up cs ms xs) b ≡ (answered (setUpAnswer n cs ms xs), b)
+unfolding bookSetUp
+refused-book n cs ms xs b z = rw (ne-eqb _ _ z)
 
 -- calls, then calls
 pub then-calls : (n : ℕ) (cs ds : List Call) (b : List BookSlot) →

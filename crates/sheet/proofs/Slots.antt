@@ -1,7 +1,7 @@
 -- One slot: an edit of a sound slot's words does what the book does with its records, and an accepted edit of any
 -- words leaves a whole slot. Assumes nothing.
 use mathlib.Core.Path.{_≡_, refl, sym, ap, _∙_}
-use Prim.Native.Nat.{ℕ, zero, suc, _+_, _-_, _/_, _%_, _≤_}
+use Prim.Native.Nat.{ℕ, _+_, _-_, _/_, _%_, _≤_}
 use native.Mathlib.Omega.{arith}
 use mathlib.Core.Bool.{true, false, cond, _||_}
 use mathlib.Core.List.{List, [], _∷_, append-nil}
@@ -18,6 +18,7 @@ use Rattle.rules.proofs.Facts.{tested}
 use Rattle.rules.proofs.Limits.{and-right}
 use Rattle.sheet.specs.Book.{BookSlot, withRecords, bookEditRows, bookEdited}
 use Rattle.sheet.specs.Book.{encodeSlot, freshSlot, singleOf, single}
+use Rattle.rules.proofs.Words.{length-records}
 use Rattle.sheet.proofs.Tables.{passed}
 use Rattle.sheet.proofs.Entry.{or-right}
 use Rattle.sheet.proofs.Words.{length-record-words, records-again}
@@ -25,11 +26,6 @@ use Rattle.sheet.proofs.Words.{slot-clinic, slot-measure, slot-indent, 
 use Rattle.sheet.proofs.Encode.{Sound, none-right}
 
 -- The splice --------------------------------------------------------------------------------------------------------
-
-pub length-records : (ws : List ℕ) (i n : ℕ) → length (records ws i n) ≡ n
-unfolding records
-length-records ws i zero = refl
-length-records ws i (suc n) = ap suc (length-records ws (suc i) n)
 
 length-splice : (rs : List Rec) (place deleted : ℕ) (new : List Rec) → place + deleted ≤ length rs →
     length (splice rs place deleted new) ≡ length rs - deleted + length new
@@ -61,14 +57,15 @@ abbrev pub slotAfter : ℕ → ℕ → List ℕ → BookSlot → BookSlot
 slotAfter place deleted inserted s =
     cond (eqb (slotAnswer place deleted inserted s .number) 0) (bookEdited place deleted inserted s) s
 
--- an accepted edit leaves a sound slot
-pub edited-sound : (place deleted : ℕ) (inserted : List ℕ) (s : BookSlot) → Sound s →
+-- an accepted edit of an assigned slot leaves a sound slot
+pub edited-sound : (place deleted : ℕ) (inserted : List ℕ) (s : BookSlot) → Sound s → (s .clinic ≡ 0 → ⊥) →
     slotAnswer place deleted inserted s .number ≡ 0 → Sound (bookEdited place deleted inserted s)
 unfolding bookEdited bookEditRows
-edited-sound place deleted inserted s h e =
+edited-sound place deleted inserted s h assigned e =
     let p = passed 0 (bookEditRows place deleted inserted s) _ refl e in
     record {
       limits = h .limits;
+      unassigned = λ c. absurd (assigned c);
       few = splice-few (s .records) place deleted inserted (p .0 .0) (p .0 .1 .1 .0);
       right = p .1;
     }
@@ -131,7 +128,12 @@ module _ (s : BookSlot) (h : Sound s) where
   pub single-edit : editSlot (freshSlot s) 0 0 all ≡ (judged (s .measure) (s .indent) (s .records), encodeSlot s)
   single-edit =
       let g : Sound empty
-      = record { limits = h .limits; few = omega arith; right = none-right (s .measure) (s .indent) } in
+      = record {
+        limits = h .limits;
+        unassigned = λ e. refl;
+        few = omega arith;
+        right = none-right (s .measure) (s .indent);
+      } in
       ap (λ w. editSlot w 0 0 all) (sym (slot-fresh (s .clinic) (s .measure) (s .indent)))
       ∙ slot-edits empty g 0 0 all
       ∙ rw (answer-all, eq-eqb _ _ (h .right), edited-all)

@@ -61,6 +61,11 @@ module _ (n : ℕ) (b : List BookSlot) (g : WellFormed n b) where
     abbrev slot : BookSlot
     slot = bookAt b k
 
+    assigned : first .number ≡ 0 → slot .clinic ≡ 0 → ⊥
+    assigned z c =
+        let e = entered (encode b) caller k (same-number same-called ∙ z) in
+        e .known (e .own ∙ clinic-of b (g .sound) k ∙ c)
+
     here : first .number ≡ 0 → Sound slot
     here z = all-at (g .sound) k _ (in-book z)
 
@@ -164,7 +169,9 @@ module _ (n : ℕ) (b : List BookSlot) (g : WellFormed n b) where
     new = bookEdited place deleted inserted (bookAt b k)
 
     edit-sound : (t : Bool) → eqb (one .number) 0 ≡ t → cond t two one .number ≡ 0 → Sound new
-    edit-sound true e z = edited-sound place deleted inserted (bookAt b k) (here n b g caller k (eqb-true _ _ e)) z
+    edit-sound true e z =
+        let y = eqb-true _ _ e in
+        edited-sound place deleted inserted (bookAt b k) (here n b g caller k y) (assigned n b g caller k y) z
     edit-sound false e z = absurd (eqb-false _ _ e z)
 
     edit-stays : WellFormed n (bookEdit n caller k place deleted inserted b .1)

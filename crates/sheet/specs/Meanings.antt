@@ -3,6 +3,7 @@
 --   outside      a word that is not of the named slot
 --   beyond       answer 1 or 2 is due: the sheet's length tells
 --   alike        two sheets that a caller of a slot cannot tell apart
+--   no earlier   an edit to which no answer before 10 applies
 --   spliced      a slot after an accepted edit
 --
 -- Assumes nothing.
@@ -11,13 +12,15 @@ use Prim.Native.Nat.{ℕ, _+_, _*_, _/_, _≤_, _<_}
 use mathlib.Core.Bool.{Bool, false, not, _||_}
 use mathlib.Core.List.{List}
 use mathlib.Core.Logic.{_⊎_}
+use mathlib.Core.Option.{none}
 use lib.Dec.{leb}
 use lib.ListN.{length}
-use Rattle.rules.specs.Records.{records}
-use Rattle.rules.specs.Groups.{units}
+use Rattle.rules.specs.Basics.{firstOf}
+use Rattle.rules.specs.Records.{badRecord, records}
+use Rattle.rules.specs.Groups.{groupFault, units}
 use Rattle.rules.specs.Adjustment.{compose}
 use Rattle.rules.specs.Sheet.{slotWords, clinicOf, measureOf, indentOf, recordsOf, lengthOk, slotAt}
-use Rattle.rules.specs.Refusals.{Answer, splice}
+use Rattle.rules.specs.Refusals.{Answer, says, splice, edited, slotRows, called}
 use Rattle.sheet.specs.Book.{Call, call-set-up, call-edit, call-read}
 
 -- word i is not one of slot k's 2,824
@@ -28,18 +31,27 @@ Outside k i = (i < 2824 * k) ⊎ (2824 * k + 2824 ≤ i)
 abbrev pub beyond : ℕ → ℕ → Bool
 beyond n k = not (lengthOk n) || leb (n / 2824) k
 
--- sheets of one length, alike in slot k's clinic and, where that is the caller, in the slot's words; where answer 1 or
--- 2 is due, alike in length alone
+-- sheets of one length, alike in slot k's clinic and, where that is a caller other than 0, in the slot's words; where
+-- answer 1 or 2 is due, alike in length alone
 pub record Alike (caller k : ℕ) (ws vs : List ℕ) : Type 0 where
   pub same-length : length ws ≡ length vs
   pub same-clinic : beyond (length ws) k ≡ false → clinicOf (slotAt ws k) ≡ clinicOf (slotAt vs k)
-  pub same-words : beyond (length ws) k ≡ false → caller ≡ clinicOf (slotAt ws k) → slotAt ws k ≡ slotAt vs k
+  pub same-words : beyond (length ws) k ≡ false → (caller ≡ 0 → ⊥) → caller ≡ clinicOf (slotAt ws k) →
+      slotAt ws k ≡ slotAt vs k
 
 -- for a call: a set-up looks at the sheet's length alone
 abbrev pub AlikeFor : Call → List ℕ → List ℕ → Type 0
 AlikeFor (call-set-up cs ms xs) ws vs = length ws ≡ length vs
 AlikeFor (call-edit c k place deleted inserted) ws vs = Alike (c .0) (k .0) ws vs
 AlikeFor (call-read c k) ws vs = Alike (c .0) (k .0) ws vs
+
+-- no answer before 10 is due on an edit: the rows 1 to 3 and 4 to 7 do not apply, and no record that would result breaks
+-- its own rules or its group's
+pub record NoEarlier (ws : List ℕ) (caller k place deleted : ℕ) (inserted : List ℕ) : Type 0 where
+  pub call : called ws caller k .number ≡ 0
+  pub slot : firstOf (slotRows (slotAt ws k) place deleted inserted) (says 0 0) .number ≡ 0
+  pub records : badRecord 0 (edited (slotAt ws k) place deleted inserted) ≡ none
+  pub groups : groupFault (edited (slotAt ws k) place deleted inserted) ≡ none
 
 -- a slot s becomes t by an accepted edit with answer a: its records are the old ones with exactly the named stretch
 -- replaced, and all its words follow from them, clinic, measure and indent as they were

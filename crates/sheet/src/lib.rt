@@ -11,7 +11,7 @@ ghost use mathlib.Core.Bool.{cond};
 ghost use Prim.Native.Nat.{_+_, _*_, _/_};
 ghost use lib.ListN.{length};
 ghost use Rattle.rules.specs.Sheet.{lengthOk};
-ghost use Rattle.rules.specs.Refusals.{says, readNumber, readStart, readLength, readWords};
+ghost use Rattle.rules.specs.Refusals.{says, readNumber, readStart, readLength, readPart, readWords};
 ghost use Rattle.rules.specs.Refusals.{called as calledOf, edit as editOf};
 
 // Two kinds of number: edit's and read's two cannot be exchanged.
@@ -105,9 +105,7 @@ pub struct Part {
 
 // Where a slot's used line words stand. Empty where the read is refused.
 pub fn read_part(sheet: &[u32], caller: Clinic, slot: SlotNumber) -> Part
-    ensures { λ r. ⌜ (r .start ≡ readStart (now (sheet .entry)) (caller .0) (slot .0))
-        × (r .end ≡ readStart (now (sheet .entry)) (caller .0) (slot .0)
-        + readLength (now (sheet .entry)) (caller .0) (slot .0)) ⌝ }
+    ensures { λ r. ⌜ (r .start, r .end) ≡ readPart (now (sheet .entry)) (caller .0) (slot .0) ⌝ }
 {
     let refusal = called(sheet, caller, slot);
     if refusal.number == 0 {

@@ -19,18 +19,18 @@ shared-slice-read-count c = let e = entered _ _ _ (zero (c .before .before)) in 
 returns : tie.Need-returns
 returns c =
     let r = read-opened _ _ _ (number-under _ _ _ (zero (c .before .before .before)) (c .if2 .taken)) in
-    (sym (r .0), omega (arith, r .0, r .1))
+    rw (r .0, r .1)
 
 returns-2 : tie.Need-returns-2
 returns-2 c =
     let r = read-refused _ _ _ (number-over _ _ _ (zero (c .before .before .before)) (c .if2 .left)) in
-    (sym (r .0), omega (arith, r .0, r .1))
+    rw (r .0, r .1)
 
 returns-3 : tie.Need-returns-3
 returns-3 c =
     let n = ap (λ a. a .number) (c .before .before .called .ensures) in
     let r = read-refused _ _ _ (λ z. c .if1 .left (n ∙ number-called _ _ _ z)) in
-    (sym (r .0), omega (arith, r .0, r .1))
+    rw (r .0, r .1)
 
 pub read-part-spec : {M : Type 1} → statement M
 read-part-spec =
