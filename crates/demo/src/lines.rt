@@ -1,4 +1,4 @@
-// A slot's lines: each character with its x under it.
+// A slot's lines: each character at the column of its x, with the x under it.
 use crate::show::print_code;
 use crate::show::print_count;
 use crate::show::print_number;
@@ -6,7 +6,7 @@ use crate::show::print_refusal;
 use crate::show::say;
 use sheet::Clinic;
 use sheet::SlotNumber;
-ghost use Prim.Native.Nat.{_/_, _<_};
+ghost use Prim.Native.Nat.{_/_, _<_, _≤_};
 ghost use lib.ListN.{length};
 
 // The two rows under a line's heading.
@@ -32,12 +32,16 @@ fn slot_words(sheet: &[u32], slot: SlotNumber) -> &[u32] {
 }
 
 // How many columns of a terminal a character takes: two, but for digits and Latin letters.
-fn columns(code: u32) -> usize {
+fn columns(code: u32) -> u32
+    ensures { λ r. ⌜ r ≤ 4 ⌝ }
+{
     if code < 0x80 { 1 } else { 2 }
 }
 
 // How many digits a position has, up to four.
-fn digits(x: u32) -> usize {
+fn digits(x: u32) -> u32
+    ensures { λ r. ⌜ r ≤ 4 ⌝ }
+{
     if x < 10 {
         1
     } else if x < 100 {
@@ -49,37 +53,51 @@ fn digits(x: u32) -> usize {
     }
 }
 
-// The blanks before what stands at the right of a cell of five columns.
-fn pad(used: usize) {
-    match used {
-        1 => say(b"    "),
-        2 => say(b"   "),
-        3 => say(b"  "),
-        _ => say(b" "),
+// The column where a position is shown: one for ten units, so that four columns are enough for the narrowest character
+// and its x. The leaflet's lines have less than a thousand units.
+fn column_of(x: u32) -> u32
+    ensures { λ r. ⌜ r ≤ 100 ⌝ }
+{
+    if x < 1000 { x / 10 } else { 100 }
+}
+
+// Blanks from one column up to another.
+fn fill(from: u32, to: u32) {
+    let mut column = from;
+    while column < to {
+        say(b" ");
+        column += 1;
     }
 }
 
-// Record `i` of a slot: its character, the first of its six words from word 8 on, or its x, the first of its two from
-// word 1544 on.
-fn print_cell(slot: &[u32], i: u32, row: Row) {
+// Record `i` of a slot, at the column of its x: its character, the first of its six words from word 8 on, or the x
+// itself, the first of its two from word 1544 on. Gives the columns it takes.
+fn print_cell(slot: &[u32], i: u32, row: Row) -> u32
+    ensures { λ r. ⌜ r ≤ 4 ⌝ }
+{
     match row {
         Row::Characters => {
             let code = word(slot, 8 + 6 * i as usize);
-            pad(columns(code));
             print_code(code);
+            columns(code)
         }
         Row::Positions => {
             let x = word(slot, 1544 + 2 * i as usize);
-            pad(digits(x));
             print_number(x);
+            digits(x)
         }
     }
 }
 
+// A row of a line, from the second column on.
 fn print_row(slot: &[u32], first: u32, end: u32, row: Row) {
+    say(b"  ");
     let mut i = first;
+    let mut next = 0;
     while i < end {
-        print_cell(slot, i, row);
+        let at = column_of(word(slot, 1544 + 2 * i as usize));
+        fill(next, at);
+        next = at + print_cell(slot, i, row);
         i += 1;
     }
     say(b"\n");

@@ -58,7 +58,7 @@ fn write(
 fn write_dose_note(sheet: &mut [u32]) {
     say(b"\nClinic 7 writes a dose note into slot 0. The dose and its unit must stay together.\n");
     write(sheet, Clinic(7), SlotNumber(0), 0, 0, &DOSE_NOTE, NO_RUBY);
-    say(b"Clinic 7 reads slot 0. Under each character stands its x.\n");
+    say(b"Clinic 7 reads slot 0. Each character stands where its x is, ten units to a column.\n");
     print_slot(sheet, Clinic(7), SlotNumber(0));
 }
 
