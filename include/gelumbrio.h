@@ -7,8 +7,9 @@
  *   256 lines of 3 words: first record, end x, kind (1 flush, 2 short, 3 final).
  *
  * Every call takes any words, numbers and lengths, and ends. A refused call changes no word of the sheet. Each slice
- * passes as a pointer, then its length in words; the sheet overlaps no other slice of its call, and nobody else writes
- * to it meanwhile. Link with libgelumbrio.a (`rt staticlib gelumbrio`).
+ * passes as a pointer, then its length in words. With length 0 nothing is read through the pointer, which must still
+ * not be NULL. The sheet overlaps no other slice of its call, and nobody else writes to it meanwhile. Link with
+ * libgelumbrio.a (`rt staticlib gelumbrio`).
  */
 #ifndef GELUMBRIO_H
 #define GELUMBRIO_H

@@ -5,6 +5,10 @@ use std::ops::Range;
 type SetUp = fn(&mut [u32], &[u32], &[u32], &[u32]) -> u32;
 type Edit = fn(&mut [u32], u32, u32, u32, u32, &[u32]) -> u32;
 
+/// The columns of the two programs.
+pub const PROVED: &str = "proved";
+pub const SECOND: &str = "second";
+
 /// A program's calls on raw words. Edit and set-up say their number.
 #[derive(Clone, Copy)]
 pub struct Program {
@@ -16,8 +20,8 @@ pub struct Program {
     pub read: fn(&[u32], u32, u32) -> Range<usize>,
 }
 
-const SECOND: Program = Program {
-    name: "second",
+const SECOND_PROGRAM: Program = Program {
+    name: SECOND,
     set_up: |sheet, clinics, measures, indents| second::set_up(sheet, clinics, measures, indents).number,
     edit: |sheet, caller, slot, place, deleted, inserted| {
         second::edit(sheet, caller, slot, place, deleted, inserted).number
@@ -27,10 +31,10 @@ const SECOND: Program = Program {
 };
 
 #[cfg(feature = "proved")]
-const PROVED: Program = {
+const PROVED_PROGRAM: Program = {
     use gelumbrio::{raw, Clinic, SlotNumber};
     Program {
-        name: "proved",
+        name: PROVED,
         set_up: |sheet, clinics, measures, indents| raw::set_up(sheet, clinics, measures, indents).number,
         edit: |sheet, caller, slot, place, deleted, inserted| {
             raw::edit(sheet, Clinic(caller), SlotNumber(slot), place, deleted, inserted).number
@@ -44,7 +48,7 @@ const PROVED: Program = {
 pub fn all() -> Vec<Program> {
     vec![
         #[cfg(feature = "proved")]
-        PROVED,
-        SECOND,
+        PROVED_PROGRAM,
+        SECOND_PROGRAM,
     ]
 }

@@ -2,14 +2,25 @@
 
 use std::fmt::Write;
 
+use crate::programs::{PROVED, SECOND};
 use crate::timing::Cell;
+use crate::work::{MEMCPY, MEMSET, ONE_OF_128, ONE_OF_256, ONE_OF_256_ON_64_SLOTS, PLAIN};
 
-const MEMSET: &str = "memset of a slot";
-const MEMCPY: &str = "memcpy of a slot";
-const PROGRAMS: [&str; 2] = ["proved", "second"];
+const PROGRAMS: [&str; 2] = [PROVED, SECOND];
+
+/// What is told of each row: nanoseconds and ratios, by their heads in the table and in JSON.
+const COLUMNS: [(&str, &str); 7] = [
+    (PROVED, PROVED),
+    (SECOND, SECOND),
+    ("p/second", "proved / second"),
+    ("p/memset", "proved / memset"),
+    ("p/memcpy", "proved / memcpy"),
+    ("s/memset", "second / memset"),
+    ("s/memcpy", "second / memcpy"),
+];
+
 /// Rows of which the first should not take much more than the second: more slots, twice the records.
-const GROWTHS: [(&str, &str); 2] =
-    [("replace 1 of 256, 64 slots", "replace 1 of 256"), ("replace 1 of 256", "replace 1 of 128")];
+const GROWTHS: [(&str, &str); 2] = [(ONE_OF_256_ON_64_SLOTS, ONE_OF_256), (ONE_OF_256, ONE_OF_128)];
 
 /// Medians by row and column.
 pub struct Report {
@@ -35,47 +46,72 @@ impl Report {
         cell.map(|(_, _, median)| *median)
     }
 
+    /// Filling and copying a slot.
+    fn yardsticks(&self) -> [Option<f64>; 2] {
+        [MEMSET, MEMCPY].map(|row| self.median(row, PLAIN))
+    }
+
+    /// The rows of calls.
+    fn calls(&self) -> impl Iterator<Item = &'static str> + '_ {
+        self.rows.iter().copied().filter(|row| ![MEMSET, MEMCPY].contains(row))
+    }
+
+    /// A row of calls, by the columns.
+    fn row(&self, row: &str) -> [Option<f64>; 7] {
+        let [memset, memcpy] = self.yardsticks();
+        let [proved, second] = PROGRAMS.map(|column| self.median(row, column));
+        [
+            proved,
+            second,
+            ratio(proved, second),
+            ratio(proved, memset),
+            ratio(proved, memcpy),
+            ratio(second, memset),
+            ratio(second, memcpy),
+        ]
+    }
+
+    /// How an edit of this program grows with slots and with records.
+    fn growths(&self, column: &str) -> [Option<f64>; 2] {
+        GROWTHS.map(|(more, less)| ratio(self.median(more, column), self.median(less, column)))
+    }
+
     /// The rows, then how an edit grows with slots and records.
     pub fn table(&self) -> String {
-        let [memset, memcpy] = [MEMSET, MEMCPY].map(|row| self.median(row, "plain"));
-        let mut table = format!("{MEMSET}: {} ns, {MEMCPY}: {} ns\n\n", number(memset), number(memcpy));
-        let head = ["proved", "second", "p/second", "p/memset", "p/memcpy", "s/memset", "s/memcpy"];
-        let _ = writeln!(table, "{:<28}{}", "ns per call, median", columns(head.map(str::to_string)));
-        for row in self.rows.iter().filter(|row| ![MEMSET, MEMCPY].contains(row)) {
-            let [proved, second] = PROGRAMS.map(|column| self.median(row, column));
-            let against_second = ratio(proved, second);
-            let [proved_set, second_set] = [proved, second].map(|median| ratio(median, memset));
-            let [proved_copy, second_copy] = [proved, second].map(|median| ratio(median, memcpy));
-            let cells = [proved, second, against_second, proved_set, proved_copy, second_set, second_copy];
-            let _ = writeln!(table, "{row:<28}{}", columns(cells.map(number)));
+        let [memset, memcpy] = self.yardsticks().map(number);
+        let mut table = format!("{MEMSET}: {memset} ns, {MEMCPY}: {memcpy} ns\n\n");
+        let heads = COLUMNS.map(|(head, _)| head.to_string());
+        let _ = writeln!(table, "{:<28}{}", "ns per call, median", columns(heads));
+        for row in self.calls() {
+            let _ = writeln!(table, "{row:<28}{}", columns(self.row(row).map(number)));
         }
         table.push('\n');
         for column in PROGRAMS {
-            let [slots, records] = GROWTHS.map(|(more, less)| self.growth(column, more, less));
+            let [slots, records] = self.growths(column).map(number);
             let _ = writeln!(
                 table,
-                "{column}: an edit on 64 slots takes {} times one on 1, of 256 records {} times one of 128",
-                number(slots),
-                number(records)
+                "{column}: an edit on 64 slots takes {slots} times one on 1, of 256 records {records} times one of 128"
             );
         }
         table
     }
 
-    /// An object of rows, each with nanoseconds by column.
+    /// The same as an object of objects: nanoseconds of the yardsticks, then of the calls with their
+    /// ratios, then the growths of each program. What was not timed is null.
     pub fn json(&self) -> String {
-        let row_json = |row: &&'static str| {
-            let cells = self.medians.iter().filter(|(r, _, _)| r == row);
-            let columns: Vec<String> =
-                cells.map(|(_, column, median)| format!("\"{column}\": {median:.2}")).collect();
-            format!("  \"{row}\": {{{}}}", columns.join(", "))
-        };
-        let rows: Vec<String> = self.rows.iter().map(row_json).collect();
-        format!("{{\n{}\n}}\n", rows.join(",\n"))
-    }
-
-    fn growth(&self, column: &str, more: &str, less: &str) -> Option<f64> {
-        ratio(self.median(more, column), self.median(less, column))
+        let [memset, memcpy] = self.yardsticks().map(json_number);
+        let names = COLUMNS.map(|(_, name)| name);
+        let calls = self.calls().map(|row| member(row, &one_line(&names, &self.row(row))));
+        let names = GROWTHS.map(|(more, less)| format!("{more} / {less}"));
+        let names = names.each_ref().map(String::as_str);
+        let growths = PROGRAMS.map(|column| member(column, &one_line(&names, &self.growths(column))));
+        let members = [
+            member(MEMSET, &memset),
+            member(MEMCPY, &memcpy),
+            member("calls", &object("  ", calls)),
+            member("growths", &object("  ", growths)),
+        ];
+        object("", members) + "\n"
     }
 }
 
@@ -93,4 +129,24 @@ fn number(value: Option<f64>) -> String {
         Some(value) if value < 100.0 => format!("{value:.2}"),
         Some(value) => format!("{value:.0}"),
     }
+}
+
+fn json_number(value: Option<f64>) -> String {
+    value.map_or("null".to_string(), |value| format!("{value:.3}"))
+}
+
+fn member(name: &str, value: &str) -> String {
+    format!("\"{name}\": {value}")
+}
+
+/// An object of numbers on one line.
+fn one_line(names: &[&str], values: &[Option<f64>]) -> String {
+    let members = names.iter().zip(values).map(|(name, value)| member(name, &json_number(*value)));
+    format!("{{{}}}", members.collect::<Vec<_>>().join(", "))
+}
+
+/// An object with a line for each member.
+fn object(indent: &str, members: impl IntoIterator<Item = String>) -> String {
+    let lines: Vec<String> = members.into_iter().map(|member| format!("{indent}  {member}")).collect();
+    format!("{{\n{}\n{indent}}}", lines.join(",\n"))
 }

@@ -12,15 +12,25 @@ const MEASURE: u32 = 1_600;
 
 type Words = [u32; 6];
 
+/// The rows of the two yardsticks, and their column.
+pub const MEMSET: &str = "memset of a slot";
+pub const MEMCPY: &str = "memcpy of a slot";
+pub const PLAIN: &str = "plain";
+
+/// The rows that the report holds against each other.
+pub const ONE_OF_256: &str = "replace 1 of 256";
+pub const ONE_OF_128: &str = "replace 1 of 128";
+pub const ONE_OF_256_ON_64_SLOTS: &str = "replace 1 of 256, 64 slots";
+
 /// Makes a row's cell for a program.
 type Row = fn(Program) -> Cell;
 
 const ROWS: [Row; 9] = [
     |program| replace_all(program, "replace all 256"),
-    |program| replace_one(program, "replace 1 of 256", 256, 1),
-    |program| replace_one(program, "replace 1 of 128", 128, 1),
+    |program| replace_one(program, ONE_OF_256, 256, 1),
+    |program| replace_one(program, ONE_OF_128, 128, 1),
     |program| replace_one(program, "replace 1 of 64", 64, 1),
-    |program| replace_one(program, "replace 1 of 256, 64 slots", 256, 64),
+    |program| replace_one(program, ONE_OF_256_ON_64_SLOTS, 256, 64),
     |program| refused(program, "refused with 3", CLINIC + 1, record(19, 80), 3),
     |program| refused(program, "refused with 10", CLINIC, record(19, 4_000), 10),
     |program| read(program, "read"),
@@ -38,13 +48,13 @@ pub fn cells() -> Vec<Cell> {
 
 fn memset() -> Cell {
     let mut slot = vec![1_u32; SLOT];
-    Cell::new("memset of a slot", "plain", move || black_box(&mut slot).fill(0))
+    Cell::new(MEMSET, PLAIN, move || black_box(&mut slot).fill(0))
 }
 
 fn memcpy() -> Cell {
     let from = vec![1_u32; SLOT];
     let mut to = vec![0_u32; SLOT];
-    Cell::new("memcpy of a slot", "plain", move || black_box(&mut to).copy_from_slice(black_box(&from)))
+    Cell::new(MEMCPY, PLAIN, move || black_box(&mut to).copy_from_slice(black_box(&from)))
 }
 
 /// Replaces all 256 records by others.

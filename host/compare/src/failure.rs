@@ -8,6 +8,9 @@ use crate::random::SEED_VARIABLE;
 use crate::run::run;
 use crate::shrink::smallest;
 
+/// Told in place of a difference where the failing case passes when it is run again.
+pub const NOT_SEEN_AGAIN: &str = "the difference did not show again";
+
 /// A difference, the smallest case found that shows one, and how to see it again.
 #[derive(Debug, Clone)]
 pub struct Failure {
@@ -31,7 +34,7 @@ impl Failure {
         Failure {
             test,
             seed,
-            difference: difference.unwrap_or_else(|| "the difference did not show again".to_string()),
+            difference: difference.unwrap_or_else(|| NOT_SEEN_AGAIN.to_string()),
             calls: case.calls.len(),
             case: case.to_string(),
         }
@@ -42,7 +45,7 @@ impl fmt::Display for Failure {
     fn fmt(&self, f: &mut fmt::Formatter<'_>) -> fmt::Result {
         writeln!(f, "{}", self.difference)?;
         writeln!(f, "smallest case found: {}", self.case)?;
-        write!(f, "to run it again: ")?;
+        write!(f, "to run it again: cd host && ")?;
         if let Some(seed) = self.seed {
             write!(f, "{SEED_VARIABLE}={seed} ")?;
         }

@@ -7,9 +7,9 @@ use crate::layout::{CLASSES, SLOT};
 use crate::random::Random;
 
 /// Numbers at the limits of document 01 and of 32 bits.
-pub const EDGES: [u32; 30] = [
+pub const EDGES: [u32; 31] = [
     0, 1, 2, 3, 6, 7, 8, 9, 15, 16, 17, 18, 19, 20, 26, 27, 28, 63, 64, 65, 255, 256, 257, 4_000, 65_535,
-    65_536, 999_999, 1_000_001, 0x8000_0000, 0xFFFF_FFFF,
+    65_536, 999_999, 1_000_000, 1_000_001, 0x8000_0000, 0xFFFF_FFFF,
 ];
 
 /// The advance of a record of this class, in the middle where there is a choice.
@@ -148,7 +148,7 @@ impl Caller {
     /// The next call, where the book stands so.
     pub fn next(&mut self, book: &Book) -> Call {
         match self.random.below(100) {
-            // Before the first accepted set-up the sheet is junk and few other calls are made.
+            // Before the first accepted set-up, on zeros or junk, few other calls are made.
             0..=79 if !book.is_set_up() => self.set_up(),
             0..=2 => self.set_up(),
             3..=14 => self.read(book),

@@ -14,11 +14,12 @@ const CLINIC: u32 = 7;
 /// A sheet of one slot on each side.
 pub struct OneSlot<'a> {
     test: &'static str,
+    seed: Option<u64>,
     program: &'a dyn Program,
     tested: Vec<u32>,
     second: Vec<u32>,
-    measure: u32,
-    indent: u32,
+    /// Measure and indent, once the slot is set up.
+    setting: Option<(u32, u32)>,
     /// The records that the slot holds.
     records: Vec<u32>,
     /// What was answered so far.
@@ -26,15 +27,15 @@ pub struct OneSlot<'a> {
 }
 
 impl<'a> OneSlot<'a> {
-    /// Slots that hold nothing and have not been set up.
-    pub fn new(test: &'static str, program: &'a dyn Program) -> OneSlot<'a> {
+    /// Slots that hold nothing and have not been set up. A failure names the seed.
+    pub fn new(test: &'static str, seed: Option<u64>, program: &'a dyn Program) -> OneSlot<'a> {
         OneSlot {
             test,
+            seed,
             program,
             tested: vec![0; SLOT],
             second: vec![0; SLOT],
-            measure: 0,
-            indent: 0,
+            setting: None,
             records: Vec::new(),
             tally: Tally::default(),
         }
@@ -42,28 +43,20 @@ impl<'a> OneSlot<'a> {
 
     /// Empties the slot.
     pub fn set_up(&mut self, measure: u32, indent: u32) -> Result<(), Failure> {
-        (self.measure, self.indent) = (measure, indent);
-        self.records.clear();
         let tested = self.program.set_up(&mut self.tested, &[CLINIC], &[measure], &[indent]);
         let second = Second.set_up(&mut self.second, &[CLINIC], &[measure], &[indent]);
-        self.tally.count(second);
-        if tested != second || self.tested != self.second {
-            return Err(self.failure(None, &[self.set_up_call()]));
-        }
+        self.compared(tested, second, || set_up_call((measure, indent)))?;
+        self.setting = Some((measure, indent));
+        self.records.clear();
         Ok(())
     }
 
     /// Puts these records in place of all others.
-    pub fn replace(&mut self, seed: Option<u64>, records: &[u32]) -> Result<Answer, Failure> {
+    pub fn replace(&mut self, records: &[u32]) -> Result<Answer, Failure> {
         let deleted = (self.records.len() / 6) as u32;
         let tested = self.program.edit(&mut self.tested, CLINIC, 0, 0, deleted, records);
         let second = Second.edit(&mut self.second, CLINIC, 0, 0, deleted, records);
-        self.tally.count(second);
-        if tested != second || self.tested != self.second {
-            let before = Call::replace(CLINIC, 0, &self.records);
-            let this = Call::replace(CLINIC, deleted, records);
-            return Err(self.failure(seed, &[self.set_up_call(), before, this]));
-        }
+        self.compared(tested, second, || Call::replace(CLINIC, deleted, records))?;
         if second.number == 0 {
             self.records.clear();
             self.records.extend_from_slice(records);
@@ -71,12 +64,23 @@ impl<'a> OneSlot<'a> {
         Ok(second)
     }
 
-    fn set_up_call(&self) -> Call {
-        Call::SetUp { clinics: vec![CLINIC], measures: vec![self.measure], indents: vec![self.indent] }
+    /// Counts the answer; a failure where answers or words differ after this call.
+    fn compared(&mut self, tested: Answer, second: Answer, call: impl Fn() -> Call) -> Result<(), Failure> {
+        self.tally.count(second);
+        if tested == second && self.tested == self.second {
+            return Ok(());
+        }
+        // The last set-up and the text give a slot the words that the call met.
+        let mut calls = Vec::new();
+        if let Some(setting) = self.setting {
+            calls.extend([set_up_call(setting), Call::replace(CLINIC, 0, &self.records)]);
+        }
+        calls.push(call());
+        let case = Case { length: SLOT, junk: None, calls };
+        Err(Failure::new(self.test, self.seed, self.program, &case))
     }
+}
 
-    fn failure(&self, seed: Option<u64>, calls: &[Call]) -> Failure {
-        let case = Case { length: SLOT, junk: None, calls: calls.to_vec() };
-        Failure::new(self.test, seed, self.program, &case)
-    }
+fn set_up_call((measure, indent): (u32, u32)) -> Call {
+    Call::SetUp { clinics: vec![CLINIC], measures: vec![measure], indents: vec![indent] }
 }

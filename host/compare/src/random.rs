@@ -58,16 +58,42 @@ impl Random {
 /// # Panics
 ///
 /// Where the variable holds no number.
-pub fn seeds(test: &str, scope: Scope, full: u64, brief: u64) -> RangeInclusive<u64> {
+pub fn seeds(test: &'static str, scope: Scope, full: u64, brief: u64) -> Seeds {
     if scope == Scope::Brief {
-        return 1..=brief;
+        return Seeds { test, current: None, later: 1..=brief };
     }
     let picked = env::var(SEED_VARIABLE).ok();
     let number =
         |seed: String| seed.parse().unwrap_or_else(|_| panic!("{SEED_VARIABLE}={seed} is no number"));
     let seeds = picked.map(number).map_or(1..=full, |seed: u64| seed..=seed);
     println!("{test}: seeds {} to {}", seeds.start(), seeds.end());
-    seeds
+    Seeds { test, current: None, later: seeds }
+}
+
+/// Seeds to go through. Where a program panics, which is no difference that could be told, the seed
+/// in use is printed.
+#[derive(Debug)]
+pub struct Seeds {
+    test: &'static str,
+    current: Option<u64>,
+    later: RangeInclusive<u64>,
+}
+
+impl Iterator for Seeds {
+    type Item = u64;
+
+    fn next(&mut self) -> Option<u64> {
+        self.current = self.later.next();
+        self.current
+    }
+}
+
+impl Drop for Seeds {
+    fn drop(&mut self) {
+        if let (true, Some(seed)) = (std::thread::panicking(), self.current) {
+            println!("{}: it failed with seed {seed}", self.test);
+        }
+    }
 }
 
 /// Whether a single seed is picked, so that counts of what all seeds saw mean nothing.

@@ -78,11 +78,6 @@ impl<'a> Run<'a> {
         &self.book
     }
 
-    /// The words as they stand.
-    pub fn words(&self) -> &[u32] {
-        &self.second
-    }
-
     /// Makes a call on both sides and in the book, and compares answers and words.
     pub fn apply(&mut self, call: &Call) -> Result<(), String> {
         match call {
@@ -159,7 +154,8 @@ impl<'a> Run<'a> {
     }
 }
 
-fn same_answer(tested: Answer, other: Answer, whose: &str) -> Result<(), String> {
+/// Whether two answers are the same; otherwise what to tell.
+pub fn same_answer(tested: Answer, other: Answer, whose: &str) -> Result<(), String> {
     if tested == other {
         return Ok(());
     }
@@ -183,7 +179,8 @@ fn same_part(tested: &Range<usize>, second: &Range<usize>, number: u32) -> Resul
     Err(format!("read hands back {tested:?}; the second program: {second:?}"))
 }
 
-fn same_words(tested: &[u32], other: &[u32], whose: &str) -> Result<(), String> {
+/// Whether two sheets hold the same words; otherwise the first that differs.
+pub fn same_words(tested: &[u32], other: &[u32], whose: &str) -> Result<(), String> {
     if tested == other {
         return Ok(());
     }

@@ -1,22 +1,24 @@
 //! Every planted fault is found, and the case that shows it is made small.
 
-use compare::comparisons::{pairs, ALL};
-use compare::failure::Failure;
+use compare::comparisons::{pairs, paragraphs, sequences, short, Comparison, ALL};
+use compare::failure::{Failure, NOT_SEEN_AGAIN};
 use compare::faults::{Fault, CLASSES_AS, SINGLE};
 use compare::layout::CLASSES;
 use compare::program::Second;
 use compare::Scope;
 
-/// The first failure of any comparison.
-fn find(fault: Fault) -> Failure {
-    let found = ALL.iter().find_map(|comparison| comparison(&fault, Scope::Brief).err());
-    found.unwrap_or_else(|| panic!("{fault:?} was not found"))
+/// The first failure of these comparisons, whose case shows the difference again.
+fn find(fault: Fault, comparisons: &[Comparison]) -> Failure {
+    let found = comparisons.iter().find_map(|comparison| comparison(&fault, Scope::Brief).err());
+    let failure = found.unwrap_or_else(|| panic!("{fault:?} was not found"));
+    assert_ne!(failure.difference, NOT_SEEN_AGAIN, "{fault:?}: {failure}");
+    failure
 }
 
 #[test]
 fn single_faults() {
     for fault in SINGLE {
-        let failure = find(fault);
+        let failure = find(fault, &ALL);
         println!("{fault:?}: found by {}, {} calls: {}", failure.test, failure.calls, failure.difference);
         assert!(failure.calls <= 6, "{fault:?}: {failure}");
     }
@@ -25,8 +27,7 @@ fn single_faults() {
 #[test]
 fn a_class_set_as_another() {
     for fault in CLASSES_AS {
-        let failure = pairs::compare(&fault, Scope::Brief).err();
-        let failure = failure.unwrap_or_else(|| panic!("{fault:?} was not found"));
+        let failure = find(fault, &[pairs::compare]);
         println!("{fault:?}: {} calls: {}", failure.calls, failure.difference);
         assert!(failure.calls <= 3, "{fault:?}: {failure}");
     }
@@ -36,20 +37,27 @@ fn a_class_set_as_another() {
 fn every_pair_of_classes_is_looked_at() {
     for left in CLASSES {
         for right in CLASSES {
-            let fault = Fault::PairShifted(left, right);
-            let failure = pairs::compare(&fault, Scope::Brief).err();
-            assert!(failure.is_some(), "{fault:?} was not found");
+            find(Fault::PairShifted(left, right), &[pairs::compare]);
         }
     }
 }
 
 #[test]
 fn a_failure_is_told_with_its_seed() {
-    let failure = compare::comparisons::sequences::compare(&Fault::OldLines, Scope::Brief).err();
-    let told = failure.expect("the fault is found").to_string();
+    let told = find(Fault::OldLines, &[sequences::compare]).to_string();
     println!("{told}");
-    assert!(told.contains("GELUMBRIO_SEED=") && told.contains("--test sequences"));
+    assert!(told.contains("cd host && GELUMBRIO_SEED=") && told.contains("--test sequences"));
     assert!(told.contains("smallest case found"));
+}
+
+/// A set-up over a text fails: the case has the text too, and the seed is named.
+#[test]
+fn a_failing_set_up_is_told_with_the_text_before_it() {
+    for comparison in [pairs::compare, short::compare, paragraphs::compare] {
+        let failure = find(Fault::SetUpHeadOnly, &[comparison]);
+        println!("{failure}");
+        assert_eq!((failure.calls, failure.seed.is_some()), (3, failure.test == "paragraphs"));
+    }
 }
 
 #[test]

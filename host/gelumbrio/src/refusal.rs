@@ -14,6 +14,11 @@ pub enum Refusal {
     /// 3: the slot is not the caller's.
     Caller,
     /// 4: what the slot holds is damaged.
+    ///
+    /// An edit finds a measure or indent out of limits, more than 256 records, or records that break
+    /// a rule. Only a set-up mends these, and it empties every slot of the sheet. A read finds more
+    /// than 256 lines, and [`Sheet::lines`](crate::Sheet::lines) lines that do not share out the
+    /// records. Any accepted edit mends these, even an empty one: it composes the slot anew.
     Damaged,
     /// 5: the place or the deletion passes the end.
     PastEnd {
@@ -38,7 +43,7 @@ pub enum Refusal {
     },
     /// 10: no breaking exists.
     NoBreaking {
-        /// The first record of the run that is too wide.
+        /// The first record of the run that is too wide; the first run stands after the indent.
         record: u32,
     },
     /// 11: a clinic, measure or indent is out of limits.
@@ -102,7 +107,10 @@ impl fmt::Display for Refusal {
             ),
             Refusal::Slot => f.write_str("the sheet has no slot of that number"),
             Refusal::Caller => f.write_str("the slot does not belong to the calling clinic"),
-            Refusal::Damaged => f.write_str("what the slot holds is damaged; only a set-up can empty it"),
+            Refusal::Damaged => f.write_str(
+                "what the slot holds is damaged; any accepted edit mends its lines, but bad settings or records \
+                 need a set-up, which empties every slot",
+            ),
             Refusal::PastEnd { count } => {
                 write!(f, "the edit reaches past the slot's end; it has {count} records")
             }
@@ -122,7 +130,8 @@ impl fmt::Display for Refusal {
             Refusal::NoBreaking { record } => {
                 write!(
                     f,
-                    "the text from record {record} to the next permitted break is wider than the measure"
+                    "the text from record {record} to where a line may next end does not fit in the measure; \
+                     line 0 also holds the indent"
                 )
             }
             Refusal::Limits { slot } => {

@@ -57,7 +57,14 @@ impl Sheet {
         Ok(Sheet { words: vec![0; slots * SLOT_WORDS] })
     }
 
-    /// A sheet of words that were kept, which may be any. Damage shows when a slot is edited.
+    /// A sheet of words that were kept, which may be any.
+    ///
+    /// Damage shows as [`Refusal::Damaged`] in the call that meets it. An edit meets a measure or
+    /// indent out of limits, a record count over 256 and records that break a rule; only a set-up
+    /// mends these, and it empties every slot. A read meets a line count over 256, and
+    /// [`lines`](Sheet::lines) meets lines that do not share out the records; any accepted edit mends
+    /// these, even an empty one. It also mends what no call judges, the x positions and the words
+    /// past the counts. Another clinic's number in the slot shows as [`Refusal::Caller`].
     pub fn from_words(words: Vec<u32>) -> Result<Sheet, Refusal> {
         let slots = words.len() / SLOT_WORDS;
         if !words.len().is_multiple_of(SLOT_WORDS) || !(1..=MAX_SLOTS).contains(&slots) {
@@ -110,8 +117,13 @@ impl Sheet {
         }
     }
 
-    /// The slot's lines with the x of every record. A read does not judge stored words; where they
-    /// are no composition, which can only be on a sheet of kept words, the slot is damaged.
+    /// The slot's lines with the x of every record.
+    ///
+    /// Kept words may be no composition. [`Refusal::Damaged`] is given where the record count is over
+    /// 256, where some record is not in exactly one line (there are records but no lines, the first
+    /// line does not start at record 0, a line starts no later than the one before it, or one starts
+    /// at or past the record count), and where the last line's kind is not 3 or another's not 1 or 2.
+    /// Nothing else is judged: every x and end x is handed back as it is stored.
     pub fn lines(&self, caller: Clinic, slot: SlotNumber) -> Result<Vec<Line>, Refusal> {
         let lines = self.read(caller, slot)?;
         self.typed_lines(lines, slot).ok_or(Refusal::Damaged)
@@ -124,11 +136,17 @@ impl Sheet {
         let places = places.get(..slot[RECORD_COUNT_AT] as usize)?;
 
         let (lines, _) = lines.as_chunks::<3>();
-        let ends = lines.iter().skip(1).map(|&[first, ..]| first as usize).chain([places.len()]);
-        let typed = lines.iter().zip(ends).map(|(&[first, end_x, kind], end)| {
-            let places = places.get(first as usize..end)?;
-            let xs = places.iter().map(|&[x, _line]| x).collect();
-            Some(Line { first_record: first, end_x, kind: Kind::new(kind)?, xs })
+        // A line ends where the next one starts, the last at the record count.
+        let starts = lines.iter().map(|&[first, ..]| first as usize);
+        let bounds: Vec<usize> = starts.chain([places.len()]).collect();
+        if bounds[0] != 0 || !bounds.is_sorted_by(|start, end| start < end) {
+            return None;
+        }
+        let typed = lines.iter().zip(bounds.windows(2)).map(|(&[first_record, end_x, kind], bounds)| {
+            let xs = places[bounds[0]..bounds[1]].iter().map(|&[x, _line]| x).collect();
+            let kind = Kind::new(kind)?;
+            let is_last = bounds[1] == places.len();
+            (is_last == (kind == Kind::Final)).then_some(Line { first_record, end_x, kind, xs })
         });
         typed.collect()
     }

@@ -32,6 +32,7 @@ fn the_c_snippet_compiles_and_runs() {
     assert!(compiled.success());
 
     let ran = Command::new(&program).output().expect("the program runs");
+    assert!(ran.status.success(), "{}", ran.status);
     let wrote = String::from_utf8(ran.stdout).expect("text");
     assert_eq!(wrote, "answer 0, 2 lines, the first ends at 440\nanother clinic: 3\n");
 }

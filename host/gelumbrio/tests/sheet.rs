@@ -48,47 +48,117 @@ fn words_can_be_kept_and_brought_back() {
     assert_eq!(back.lines(CLINIC, SLOT).unwrap()[0].kind, Kind::Short);
 }
 
-#[test]
-fn damaged_words_are_no_lines() {
-    let mut sheet = sheet(400);
+/// Six ideographs on two lines: line words 0, 440, 1 and 5, 80, 3.
+fn two_lines() -> Sheet {
+    let mut sheet = sheet(440);
     assert_eq!(sheet.edit(CLINIC, SLOT, 0, 0, &[K; 6].concat()), Ok(2));
-    for (at, word) in [(2_056 + 2, 4), (2_056 + 3, 7), (3, 300), (2_056, 6)] {
-        let mut words = sheet.words().to_vec();
-        words[at] = word;
-        let damaged = Sheet::from_words(words).unwrap();
-        assert_eq!(damaged.lines(CLINIC, SLOT), Err(Refusal::Damaged), "word {at} = {word}");
+    sheet
+}
+
+/// The sheet, one word of it another.
+fn damaged(sheet: &Sheet, at: usize, word: u32) -> Sheet {
+    let mut words = sheet.words().to_vec();
+    words[at] = word;
+    Sheet::from_words(words).unwrap()
+}
+
+#[test]
+fn damaged_lines_are_mended_by_any_accepted_edit() {
+    let sound = two_lines();
+    // The line count, the first line's start and kind, the second line's start and kind.
+    for (at, word) in [
+        (4, 0),
+        (4, 1),
+        (4, 3),
+        (4, 257),
+        (2_056, 1),
+        (2_056, 6),
+        (2_058, 0),
+        (2_058, 3),
+        (2_059, 0),
+        (2_059, 6),
+        (2_059, 7),
+        (2_059, u32::MAX),
+        (2_061, 1),
+        (2_061, 4),
+    ] {
+        let mut sheet = damaged(&sound, at, word);
+        assert_eq!(sheet.lines(CLINIC, SLOT), Err(Refusal::Damaged), "word {at} = {word}");
+        assert_eq!(sheet.edit(CLINIC, SLOT, 0, 0, &[]), Ok(2), "word {at} = {word}");
+        assert_eq!(sheet, sound, "word {at} = {word}");
     }
+}
+
+#[test]
+fn lines_are_held_against_the_record_count() {
+    // Fewer records than the lines speak of; an edit then goes by the count.
+    for (count, lines) in [(0, 0), (5, 1)] {
+        let mut sheet = damaged(&two_lines(), 3, count);
+        assert_eq!(sheet.lines(CLINIC, SLOT), Err(Refusal::Damaged), "{count} records");
+        assert_eq!(sheet.edit(CLINIC, SLOT, 0, 0, &[]), Ok(lines));
+        assert_eq!(sheet.lines(CLINIC, SLOT).map(|typed| typed.len()), Ok(lines as usize));
+    }
+}
+
+#[test]
+fn damaged_settings_and_records_need_a_set_up() {
+    let sound = two_lines();
+    // Measure, indent, record count and a record's class.
+    for (at, word) in [(1, 7), (2, 440), (3, 300), (9, 17)] {
+        let mut sheet = damaged(&sound, at, word);
+        assert_eq!(sheet.edit(CLINIC, SLOT, 0, 0, &[]), Err(Refusal::Damaged), "word {at} = {word}");
+        assert_eq!(sheet.lines(CLINIC, SLOT).is_err(), at == 3, "word {at} = {word}");
+        assert_eq!(sheet.set_up(&[CLINIC, Clinic(9)], &[440, 800], &[0, 0]), Ok(()));
+        assert_eq!(sheet.lines(CLINIC, SLOT), Ok(vec![]));
+    }
+}
+
+#[test]
+fn what_lines_does_not_judge_is_handed_back_as_stored() {
+    let sound = two_lines();
+    let changed = damaged(&damaged(&sound, 1_544, 9), 2_057, 999);
+    let lines = changed.lines(CLINIC, SLOT).unwrap();
+    assert_eq!((lines[0].xs[0], lines[0].end_x), (9, 999));
+}
+
+/// Checks that a call is refused so.
+fn refused<T: std::fmt::Debug + PartialEq>(outcome: Result<T, Refusal>, number: u32, refusal: Refusal) {
+    assert_eq!(outcome, Err(refusal));
+    assert_eq!(refusal.number(), number, "{refusal:?}");
 }
 
 #[test]
 fn refusals_by_number() {
     let mut sheet = sheet(400);
-    let past_end = sheet.edit(CLINIC, SLOT, 1, 0, &[]);
-    assert_eq!(past_end, Err(Refusal::PastEnd { count: 0 }));
-    assert_eq!(sheet.edit(CLINIC, SlotNumber(2), 0, 0, &[]), Err(Refusal::Slot));
-    assert_eq!(sheet.edit(Clinic(9), SLOT, 0, 0, &[]), Err(Refusal::Caller));
-    assert_eq!(sheet.edit(CLINIC, SLOT, 0, 0, &[0; 5]), Err(Refusal::PartialRecord));
-    assert_eq!(sheet.edit(CLINIC, SLOT, 0, 0, &K.repeat(257)), Err(Refusal::TooManyRecords));
-    let bad_record = sheet.edit(CLINIC, SLOT, 0, 0, &[K, [0; 6]].concat());
-    assert_eq!(bad_record, Err(Refusal::Record { record: 1 }));
-    let grouped = [0x6F22, 19, 80, 80, 1, 1];
-    let long_group = sheet.edit(CLINIC, SLOT, 0, 0, &grouped.repeat(17));
-    assert_eq!(long_group, Err(Refusal::Group { record: 16 }));
-    let wide = sheet.edit(CLINIC, SLOT, 0, 0, &[K, [0x6F22, 19, 408, 408, 0, 0]].concat());
-    assert_eq!(wide, Err(Refusal::NoBreaking { record: 1 }));
+    refused(sheet.set_up(&[CLINIC], &[400], &[0]), 1, Refusal::Length);
+    refused(sheet.edit(CLINIC, SlotNumber(2), 0, 0, &[]), 2, Refusal::Slot);
+    refused(sheet.edit(Clinic(9), SLOT, 0, 0, &[]), 3, Refusal::Caller);
+    refused(damaged(&sheet, 1, 7).edit(CLINIC, SLOT, 0, 0, &[]), 4, Refusal::Damaged);
+    refused(sheet.edit(CLINIC, SLOT, 1, 0, &[]), 5, Refusal::PastEnd { count: 0 });
+    refused(sheet.edit(CLINIC, SLOT, 0, 0, &[0; 5]), 6, Refusal::PartialRecord);
+    refused(sheet.edit(CLINIC, SLOT, 0, 0, &K.repeat(257)), 7, Refusal::TooManyRecords);
+    let bad_record = [K, [0; 6]].concat();
+    refused(sheet.edit(CLINIC, SLOT, 0, 0, &bad_record), 8, Refusal::Record { record: 1 });
+    let long_group = [0x6F22, 19, 80, 80, 1, 1].repeat(17);
+    refused(sheet.edit(CLINIC, SLOT, 0, 0, &long_group), 9, Refusal::Group { record: 16 });
+    let wide = [K, [0x6F22, 19, 408, 408, 0, 0]].concat();
+    refused(sheet.edit(CLINIC, SLOT, 0, 0, &wide), 10, Refusal::NoBreaking { record: 1 });
     let limits = sheet.set_up(&[CLINIC, CLINIC], &[400, 7], &[0, 0]);
-    assert_eq!(limits, Err(Refusal::Limits { slot: 1 }));
-    assert_eq!(sheet.set_up(&[CLINIC], &[400], &[0]), Err(Refusal::Length));
-    let unassigned = Sheet::new(1).unwrap();
-    assert_eq!(unassigned.read(Clinic(0), SLOT), Err(Refusal::Caller));
+    refused(limits, 11, Refusal::Limits { slot: 1 });
+
+    refused(sheet.read(CLINIC, SlotNumber(2)), 2, Refusal::Slot);
+    refused(Sheet::new(1).unwrap().read(Clinic(0), SLOT), 3, Refusal::Caller);
+    refused(damaged(&sheet, 4, 257).read(CLINIC, SLOT), 4, Refusal::Damaged);
 }
 
 #[test]
 fn a_refusal_says_why() {
-    let wide = Refusal::NoBreaking { record: 3 };
-    assert_eq!(wide.number(), 10);
-    let expected = "the text from record 3 to the next permitted break is wider than the measure";
-    assert_eq!(wide.to_string(), expected);
+    let expected = "the text from record 3 to where a line may next end does not fit in the measure; \
+                    line 0 also holds the indent";
+    assert_eq!(Refusal::NoBreaking { record: 3 }.to_string(), expected);
+    let expected = "what the slot holds is damaged; any accepted edit mends its lines, but bad settings or \
+                    records need a set-up, which empties every slot";
+    assert_eq!(Refusal::Damaged.to_string(), expected);
     let error: Box<dyn std::error::Error> = Box::new(Refusal::PastEnd { count: 12 });
     assert_eq!(error.to_string(), "the edit reaches past the slot's end; it has 12 records");
 }

@@ -14,6 +14,7 @@
 //! | [`compose`] | the lines and places of a whole paragraph |
 //! | [`sheet`] | "The sheet", its layout and its calls |
 //! | [`book`] | "The book of demand 3" |
+//! | [`by_hand`] | "Composed by hand", C1 to C13 to test a program with |
 //!
 //! No input makes a call panic. Sums stay far below 2^32: a paragraph has at most 256 units, a
 //! unit's advance is at most 128,000 (64 ruby characters of size 2,000), a space at most 3,000 and
@@ -25,6 +26,7 @@ pub mod adjust;
 pub mod answer;
 pub mod book;
 pub mod breaking;
+pub mod by_hand;
 pub mod compose;
 pub mod records;
 pub mod sheet;

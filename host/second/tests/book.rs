@@ -20,7 +20,7 @@ struct Run {
 
 impl Run {
     fn new(seed: u64) -> Run {
-        let mut random = Random(seed);
+        let mut random = Random::new(seed);
         let slots = 1 + random.below(5) as usize;
         let sheet = (0..slots * SLOT_WORDS).map(|_| random.next() as u32).collect();
         Run { random, sheet, book: Book::new(), numbers: [0; 12] }
@@ -122,7 +122,7 @@ fn the_book_answers_as_the_calls_and_knows_every_word() {
                 1..=30 => run.edit(),
                 _ => run.read(),
             }
-            assert_eq!(run.book.encode(), run.sheet, "seed {seed}");
+            assert_eq!(run.book.encode(), run.sheet);
         }
         assert!(run.slots() <= 5);
         run.check_single_edits();

@@ -63,7 +63,7 @@ fn lines_are_longest_and_ten_means_no_breaking() {
     println!("seeds {SEEDS:?}");
     let mut wide = 0;
     for seed in SEEDS {
-        let mut random = Random(seed);
+        let mut random = Random::new(seed);
         let count = random.below(24);
         let words: Vec<Words> = random_records(&mut random, count);
         let records = decode_all(&words).expect("they keep their own rules");
@@ -75,15 +75,15 @@ fn lines_are_longest_and_ten_means_no_breaking() {
         let setting = Setting { measure, indent: random.below(measure.min(40)) };
         let breaker = Breaker::new(&units, setting);
         let fewest = fewest_lines(&units, 0, setting, &mut vec![None; units.len()]);
-        assert_eq!(breaker.first_wide_run().is_none(), fewest.is_some(), "seed {seed}");
+        assert_eq!(breaker.first_wide_run().is_none(), fewest.is_some());
         if let Some(fewest) = fewest {
             check_longest(&units, &breaker.lines(), setting);
-            assert_eq!(breaker.lines().len(), fewest, "seed {seed}");
+            assert_eq!(breaker.lines().len(), fewest);
         } else {
             wide += 1;
             // Where the search stands still is the run that answer 10 names.
             let stuck = breaker.lines().last().map_or(0, |line| line.end);
-            assert_eq!(breaker.first_wide_run(), Some(units[stuck].first), "seed {seed}");
+            assert_eq!(breaker.first_wide_run(), Some(units[stuck].first));
         }
     }
     assert!((100..2_900).contains(&wide), "{wide} of the paragraphs have no breaking");
@@ -94,7 +94,7 @@ fn every_line_ends_as_its_kind_says() {
     println!("seeds {SEEDS:?}");
     let mut kinds = [0; 4];
     for seed in SEEDS {
-        let mut random = Random(seed);
+        let mut random = Random::new(seed);
         let count = random.below(60);
         let words = random_records(&mut random, count);
         let measure = 200 + random.below(800);
@@ -105,10 +105,10 @@ fn every_line_ends_as_its_kind_says() {
         for (i, line) in lines.chunks(3).enumerate() {
             let is_final = 3 * (i + 1) == lines.len();
             match line[2] {
-                1 => assert!(!is_final && line[1] == measure, "seed {seed}"),
-                2 => assert!(!is_final && line[1] < measure, "seed {seed}"),
-                3 => assert!(is_final && line[1] <= measure, "seed {seed}"),
-                kind => panic!("kind {kind}, seed {seed}"),
+                1 => assert!(!is_final && line[1] == measure),
+                2 => assert!(!is_final && line[1] < measure),
+                3 => assert!(is_final && line[1] <= measure),
+                kind => panic!("kind {kind}"),
             }
             kinds[line[2] as usize] += 1;
         }

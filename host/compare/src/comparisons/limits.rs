@@ -2,8 +2,8 @@
 
 use crate::calls::{Call, Case, Words};
 use crate::failure::Failure;
-use crate::generate::{plain, EDGES};
-use crate::layout::SLOT;
+use crate::generate::{plain, usual_advance, EDGES};
+use crate::layout::{CLASSES, SLOT};
 use crate::program::Program;
 use crate::run::{run, Tally};
 use crate::Scope;
@@ -18,9 +18,10 @@ pub fn compare(program: &dyn Program, _scope: Scope) -> Result<Tally, Failure> {
     let mut cases = Vec::new();
     cases.extend(LENGTHS.map(wrong_length));
     cases.push(set_up_numbers());
-    cases.push(edit_numbers());
+    cases.extend(edit_numbers());
     cases.push(inserted_lengths());
     cases.push(record_numbers());
+    cases.push(record_sizes());
     cases.push(group_lengths());
     cases.push(full_slots());
     cases.extend(measures());
@@ -68,38 +69,38 @@ fn set_up_numbers() -> Case {
     Case { length: 3 * SLOT, junk: None, calls }
 }
 
-/// Every pair of edges as place and deletion; every edge as caller and as slot.
-fn edit_numbers() -> Case {
-    let mut calls = vec![set_up(2, 800), Call::replace(7, 0, &plain(19, 80).repeat(9))];
+/// Every pair of edges as place and deletion, and as caller and slot, each on nine records.
+fn edit_numbers() -> Vec<Case> {
+    let on_nine_records = |calls: &[Call]| {
+        let nine = [set_up(2, 800), Call::replace(7, 0, &plain(19, 80).repeat(9))];
+        Case { length: 2 * SLOT, junk: None, calls: [&nine, calls].concat() }
+    };
+    let largest = Call::Edit { caller: BIG, slot: BIG, place: BIG, deleted: BIG, inserted: vec![BIG; 3_000] };
+    let mut cases = vec![on_nine_records(&[largest])];
     for edge in EDGES {
         for other in EDGES {
-            calls.push(Call::Edit { caller: 7, slot: 0, place: edge, deleted: other, inserted: vec![] });
-            calls.push(Call::Edit { caller: edge, slot: other, place: 0, deleted: 0, inserted: vec![] });
-            calls.push(Call::Read { caller: edge, slot: other });
+            cases.push(on_nine_records(&[
+                Call::Read { caller: edge, slot: other },
+                Call::Edit { caller: edge, slot: other, place: 0, deleted: 0, inserted: vec![] },
+                Call::Edit { caller: 7, slot: 0, place: edge, deleted: other, inserted: vec![] },
+            ]));
         }
-        // Back to nine records.
-        calls.push(set_up(2, 800));
-        calls.push(Call::replace(7, 0, &plain(19, 80).repeat(9)));
     }
-    calls.push(Call::Edit { caller: BIG, slot: BIG, place: BIG, deleted: BIG, inserted: vec![BIG; 3_000] });
-    Case { length: 2 * SLOT, junk: None, calls }
+    cases
 }
 
-/// Insertions that are no whole records, too many, or both; of records that are sound and of junk.
+/// Insertions that are no whole records, too many, or both; of junk, of records that are sound, and
+/// of these once more where they stand already.
 fn inserted_lengths() -> Case {
-    let mut calls = vec![set_up(1, 8_000)];
+    let mut calls = Vec::new();
     for records in [0, 1, 2, 127, 128, 129, 255, 256, 257, 300] {
         for cut in [0, 1, 5] {
             let mut words = plain(19, 80).repeat(records);
             words.truncate(words.len().saturating_sub(cut));
-            calls.push(Call::Edit {
-                caller: 7,
-                slot: 0,
-                place: 0,
-                deleted: 0,
-                inserted: vec![BIG; words.len()],
-            });
-            calls.push(Call::Edit { caller: 7, slot: 0, place: 0, deleted: 0, inserted: words });
+            calls.push(set_up(1, 8_000));
+            calls.push(Call::replace(7, 0, &vec![BIG; words.len()]));
+            calls.push(Call::replace(7, 0, &words));
+            calls.push(Call::replace(7, 0, &words));
         }
     }
     Case { length: SLOT, junk: None, calls }
@@ -119,6 +120,26 @@ fn record_numbers() -> Case {
                 spoiled[word] = edge;
                 calls.push(set_up(1, 1_000_000));
                 calls.push(Call::replace(7, 0, &[record, spoiled].concat()));
+            }
+        }
+    }
+    Case { length: SLOT, junk: None, calls }
+}
+
+/// Every class in sizes at and past the limits, each with an advance that goes with its size.
+fn record_sizes() -> Case {
+    let sizes = [0, 4, 8, 12, 3_992, 4_000, 4_004, 4_008, 4_096, 0x8000_0000, BIG - 15, BIG - 7, BIG];
+    let mut calls = Vec::new();
+    for class in CLASSES {
+        for size in sizes {
+            let advances = match class {
+                3 => vec![1, size],
+                27 => vec![1, size, size.wrapping_mul(2)],
+                _ => vec![usual_advance(class, size)],
+            };
+            for advance in advances {
+                calls.push(set_up(1, 1_000_000));
+                calls.push(Call::replace(7, 0, &[0x3042, class, size, advance, 0, 0]));
             }
         }
     }

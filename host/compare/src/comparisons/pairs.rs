@@ -16,12 +16,12 @@ const TEST: &str = "pairs";
 
 /// Compares every pair.
 pub fn compare(program: &dyn Program, scope: Scope) -> Result<Tally, Failure> {
-    let mut slot = OneSlot::new(TEST, program);
+    let mut slot = OneSlot::new(TEST, None, program);
     for measure in (8..100).rev().step_by(scope.choose(1, 7)) {
         slot.set_up(measure, 0)?;
         for_each_pair([8, 16], |left, right| {
             for text in texts(left, right, plain(19, 8)) {
-                slot.replace(None, &text)?;
+                slot.replace(&text)?;
             }
             Ok(())
         })?;
@@ -37,8 +37,8 @@ pub fn compare(program: &dyn Program, scope: Scope) -> Result<Tally, Failure> {
         for measure in measures {
             slot.set_up(measure, 0)?;
             for_each_pair([80, 120], |left, right| {
-                slot.replace(None, &[left, right].concat())?;
-                slot.replace(None, &[left, right, plain(19, 80)].concat()).map(drop)
+                slot.replace(&[left, right].concat())?;
+                slot.replace(&[left, right, plain(19, 80)].concat()).map(drop)
             })?;
         }
     }

@@ -1,5 +1,5 @@
-//! All short paragraphs over small alphabets, at every measure from 8 up to where they fit on one
-//! line.
+//! All short paragraphs over small alphabets, at every measure from 8, the least there is, up to
+//! where they fit on one line.
 
 use crate::calls::Words;
 use crate::failure::Failure;
@@ -12,10 +12,11 @@ use crate::Scope;
 
 const TEST: &str = "short";
 const SIZE: u32 = 8;
+const LEAST_MEASURE: u32 = 8;
 
 /// Compares all short paragraphs.
 pub fn compare(program: &dyn Program, scope: Scope) -> Result<Tally, Failure> {
-    let mut slot = OneSlot::new(TEST, program);
+    let mut slot = OneSlot::new(TEST, None, program);
     // What shrinks, what stretches and what does neither.
     let punctuation = [1, 2, 5, 6, 7, 19, 27].map(|class| plain(class, SIZE));
     all(&mut slot, &punctuation, scope.choose(6, 3), 0)?;
@@ -58,11 +59,12 @@ struct Paragraph {
 /// All paragraphs of up to this many records, at every measure.
 fn all(slot: &mut OneSlot, alphabet: &[Words], longest: u32, indent: u32) -> Result<(), Failure> {
     let paragraphs = paragraphs(alphabet, longest);
-    let widest = paragraphs.iter().map(|paragraph| paragraph.width).max().unwrap_or(0);
-    for measure in 8..=widest + indent {
+    let last_measure = |paragraph: &Paragraph| LEAST_MEASURE.max(paragraph.width + indent);
+    let last = paragraphs.iter().map(last_measure).max().unwrap_or(LEAST_MEASURE);
+    for measure in LEAST_MEASURE..=last {
         slot.set_up(measure, indent)?;
-        for paragraph in paragraphs.iter().filter(|paragraph| measure <= paragraph.width + indent) {
-            slot.replace(None, &paragraph.words)?;
+        for paragraph in paragraphs.iter().filter(|paragraph| measure <= last_measure(paragraph)) {
+            slot.replace(&paragraph.words)?;
         }
     }
     Ok(())

@@ -48,6 +48,7 @@ impl Edit<'_> {
             }
             Fault::NarrowRuby => self.with_records_as(sheet, with_one_ruby),
             Fault::DashesAlike => self.with_records_as(sheet, with_one_dash),
+            Fault::LargeSizes => self.with_records_as(sheet, with_size_in_limits),
             Fault::CallerZero if self.caller == 0 && clinic == 0 => self.with_head_word(sheet, 0, 1, 1),
             Fault::ShortCaller if self.caller % 65_536 == clinic => self.by(sheet, clinic, self.slot),
             Fault::SlotWraps => self.by(sheet, self.caller, self.slot % slots),
@@ -155,6 +156,16 @@ fn with_one_ruby(mut record: Words) -> Words {
 fn with_one_dash(mut record: Words) -> Words {
     if record[1] == 8 {
         record[0] = 0x2014;
+    }
+    record
+}
+
+/// The record, of size 4,000 where its own is larger and up to 4,096, its advance in proportion.
+fn with_size_in_limits(mut record: Words) -> Words {
+    let size = record[2];
+    if (4_001..=4_096).contains(&size) && size.is_multiple_of(8) && record[3] <= 2 * size {
+        record[2] = 4_000;
+        record[3] = 4_000 * record[3] / size;
     }
     record
 }

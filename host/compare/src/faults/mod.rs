@@ -13,7 +13,7 @@ use second::{Answer, RubyPlace};
 use crate::layout::{LINES, SLOT};
 use crate::program::{Program, Second};
 use edits::Edit;
-use slots::{keep_texts, slot_words, whole_slots};
+use slots::{keep_all_but_heads, keep_texts, slot_words, whole_slots};
 
 /// A wrong program.
 #[derive(Debug, Clone, Copy, PartialEq, Eq)]
@@ -54,6 +54,8 @@ pub enum Fault {
     FiveNamesPlace,
     /// Too many records are seen before words that are no whole record.
     SevenBeforeSix,
+    /// Sizes up to 4,096 are let in.
+    LargeSizes,
     /// Group faults are seen before records that break their own rules.
     NineBeforeEight,
     /// Answer 8 names the record among the inserted ones.
@@ -72,8 +74,10 @@ pub enum Fault {
     LastRecord,
     /// The 256th line is not written.
     LastLine,
-    /// Set-up leaves the text of a slot whose clinic stays.
+    /// Set-up leaves the text of a slot whose clinic, measure and indent stay.
     SetUpKeepsText,
+    /// Set-up writes the head and leaves every word after it.
+    SetUpHeadOnly,
     /// Set-up lets clinics over 16 bits in.
     SetUpAnyClinic,
     /// Set-up names the last slot out of limits.
@@ -101,7 +105,7 @@ pub enum Fault {
 }
 
 /// Every fault but those of classes.
-pub const SINGLE: [Fault; 38] = [
+pub const SINGLE: [Fault; 40] = [
     Fault::NaturalBreaks,
     Fault::DamageBeforeCaller,
     Fault::LeftoverToLastGap,
@@ -120,6 +124,7 @@ pub const SINGLE: [Fault; 38] = [
     Fault::DeletionWraps,
     Fault::FiveNamesPlace,
     Fault::SevenBeforeSix,
+    Fault::LargeSizes,
     Fault::NineBeforeEight,
     Fault::EightNamesInserted,
     Fault::NineNamesGroup,
@@ -130,6 +135,7 @@ pub const SINGLE: [Fault; 38] = [
     Fault::LastRecord,
     Fault::LastLine,
     Fault::SetUpKeepsText,
+    Fault::SetUpHeadOnly,
     Fault::SetUpAnyClinic,
     Fault::SetUpNamesLast,
     Fault::ReadAll,
@@ -180,6 +186,7 @@ impl Program for Fault {
         let answer = Second.set_up(sheet, clinics, measures, indents);
         match self {
             Fault::SetUpKeepsText if answer.number == 0 => keep_texts(sheet, &before),
+            Fault::SetUpHeadOnly if answer.number == 0 => keep_all_but_heads(sheet, &before),
             Fault::SetUpNamesLast if answer.number == 11 => {
                 return last_out_of_limits(clinics, measures, indents)
             }

@@ -32,12 +32,19 @@ pub fn store_records(sheet: &mut [u32], slot: u32, records: &[Words]) {
     }
 }
 
-/// Leaves the text of each slot whose clinic stays.
+/// Leaves the text of each slot whose clinic, measure and indent stay.
 pub fn keep_texts(sheet: &mut [u32], before: &[u32]) {
     for (slot, old) in sheet.chunks_exact_mut(SLOT).zip(before.chunks_exact(SLOT)) {
         if slot[..3] == old[..3] {
             slot.copy_from_slice(old);
         }
+    }
+}
+
+/// Leaves every word after the heads.
+pub fn keep_all_but_heads(sheet: &mut [u32], before: &[u32]) {
+    for (slot, old) in sheet.chunks_exact_mut(SLOT).zip(before.chunks_exact(SLOT)) {
+        slot[RECORDS..].copy_from_slice(&old[RECORDS..]);
     }
 }
 

@@ -77,13 +77,29 @@ pub fn compose(records: &[Words], measure: u32, indent: u32) -> (u32, u32) {
     edit(&mut sheet, CLINIC, 0, 0, 0, &flat(records))
 }
 
-/// Splitmix64: every seed gives a sequence of its own.
-pub struct Random(pub u64);
+/// Splitmix64: every seed gives a sequence of its own. Whatever fails while a sequence is in use, an
+/// assertion or the program, the seed is printed.
+pub struct Random {
+    seed: u64,
+    state: u64,
+}
+
+impl Drop for Random {
+    fn drop(&mut self) {
+        if std::thread::panicking() {
+            println!("it failed with seed {}", self.seed);
+        }
+    }
+}
 
 impl Random {
+    pub fn new(seed: u64) -> Random {
+        Random { seed, state: seed }
+    }
+
     pub fn next(&mut self) -> u64 {
-        self.0 = self.0.wrapping_add(0x9E37_79B9_7F4A_7C15);
-        let mut z = self.0;
+        self.state = self.state.wrapping_add(0x9E37_79B9_7F4A_7C15);
+        let mut z = self.state;
         z = (z ^ (z >> 30)).wrapping_mul(0xBF58_476D_1CE4_E5B9);
         z = (z ^ (z >> 27)).wrapping_mul(0x94D0_49BB_1331_11EB);
         z ^ (z >> 31)

@@ -1,0 +1,92 @@
+//! The cases that document 01 composes by hand (document 01, "Composed by hand"), for the tests of
+//! this program and of any other.
+
+use crate::answer::{Answer, Refusal};
+
+type Words = [u32; 6];
+
+/// The x of a line's records, its end x and its kind.
+type Line = (&'static [u32], u32, u32);
+
+/// A case. Its indent is 0.
+#[derive(Debug, Clone, Copy)]
+pub struct Case {
+    /// Its name in document 01.
+    pub name: &'static str,
+    /// The records of its paragraph.
+    pub records: &'static [Words],
+    /// Its measure.
+    pub measure: u32,
+    /// Its lines, or the place of answer 10.
+    lines: Result<&'static [Line], usize>,
+}
+
+/// An ideograph, the paper's K.
+const K: Words = [0x6F22, 19, 80, 80, 0, 0];
+const FULL_STOP: Words = [0x3002, 6, 80, 40, 0, 0];
+const COMMA: Words = [0x3001, 7, 80, 40, 0, 0];
+const OPENING: Words = [0x300C, 1, 80, 40, 0, 0];
+const CLOSING: Words = [0x300D, 2, 80, 40, 0, 0];
+const WESTERN: Words = [0x41, 27, 80, 40, 0, 0];
+/// An ideograph of a group with 3 ruby characters.
+const GROUPED: Words = [0x6F22, 19, 80, 80, 1, 3];
+
+const WITH_FULL_STOP: &[Words] = &[K, K, K, K, K, FULL_STOP, K];
+const WITH_COMMA: &[Words] = &[K, K, COMMA, K, K, K];
+const IN_BRACKETS: &[Words] = &[OPENING, K, CLOSING];
+
+/// C1 to C13; C10 and C11 are two each.
+pub const CASES: [Case; 15] = [
+    Case::new("C1", &[], 400, Ok(&[])),
+    Case::new("C2", &[K; 5], 400, Ok(&[(&[0, 80, 160, 240, 320], 400, 3)])),
+    Case::new("C3", &[K; 6], 440, Ok(&[(&[0, 90, 180, 270, 360], 440, 1), (&[0], 80, 3)])),
+    Case::new("C4", WITH_FULL_STOP, 400, Ok(&[(&[0, 106, 213, 320], 400, 1), (&[0, 80, 160], 240, 3)])),
+    Case::new("C5", WITH_COMMA, 460, Ok(&[(&[0, 80, 160, 220, 300, 380], 460, 3)])),
+    Case::new("C6", WITH_COMMA, 459, Ok(&[(&[0, 99, 179, 279, 379], 459, 1), (&[0], 80, 3)])),
+    Case::new("C7", &[K, WESTERN, K], 220, Ok(&[(&[0, 90, 140], 220, 3)])),
+    Case::new("C8", &[K, WESTERN, K], 219, Ok(&[(&[0, 179], 219, 1), (&[0], 80, 3)])),
+    Case::new("C9", &[K; 2], 100, Ok(&[(&[0], 80, 2), (&[0], 80, 3)])),
+    Case::new("C10", &[K], 79, Err(0)),
+    Case::new("C10", &[K], 80, Ok(&[(&[0], 80, 3)])),
+    Case::new("C11", IN_BRACKETS, 159, Err(0)),
+    Case::new("C11", IN_BRACKETS, 160, Ok(&[(&[0, 40, 120], 160, 3)])),
+    Case::new("C12", &[GROUPED; 2], 400, Ok(&[(&[0, 80], 160, 3)])),
+    Case::new("C13", &[GROUPED], 400, Ok(&[(&[20], 120, 3)])),
+];
+
+/// The ruby of C12 and C13: the name, the base advance, and where the 3 ruby characters stand.
+pub const RUBY: [(&str, u32, [u32; 3]); 2] = [("C12", 160, [6, 60, 113]), ("C13", 80, [0, 40, 80])];
+
+impl Case {
+    const fn new(
+        name: &'static str,
+        records: &'static [Words],
+        measure: u32,
+        lines: Result<&'static [Line], usize>,
+    ) -> Case {
+        Case { name, records, measure, lines }
+    }
+
+    /// What the edit answers that inserts the records into a fresh slot of this clinic, and every
+    /// word of the slot after it. The layout is written out here, apart from the program's.
+    pub fn expected(&self, clinic: u32) -> (Answer, Vec<u32>) {
+        let mut slot = vec![0; 2_824];
+        slot[..3].copy_from_slice(&[clinic, self.measure, 0]);
+        let lines = match self.lines {
+            Err(place) => return (Refusal::NoBreaking(place).into(), slot),
+            Ok(lines) => lines,
+        };
+        slot[3] = self.records.len() as u32;
+        slot[4] = lines.len() as u32;
+        slot[8..][..6 * self.records.len()].copy_from_slice(&self.records.concat());
+        let mut first = 0;
+        for (number, &(xs, end_x, kind)) in lines.iter().enumerate() {
+            slot[2_056 + 3 * number..][..3].copy_from_slice(&[first as u32, end_x, kind]);
+            for &x in xs {
+                slot[1_544 + 2 * first..][..2].copy_from_slice(&[x, number as u32]);
+                first += 1;
+            }
+        }
+        (Answer::accepted(lines.len()), slot)
+    }
+}
