@@ -15,7 +15,8 @@ use Rattle.rules.proofs.Facts.{tested}
 use Rattle.sheet.specs.Book.{Call, call-set-up, call-edit, call-read, answered, handed, step}
 use Rattle.sheet.specs.Meanings.{beyond, Alike, AlikeFor}
 use Rattle.sheet.proofs.Tables.{passed}
-use Rattle.sheet.proofs.Entry.{entered, number-called, read-slot, read-none}
+use Rattle.sheet.proofs.Entry.{entered}
+use Rattle.sheet.proofs.Reading.{number-called, read-slot, read-none}
 
 -- the rows 1 to 3
 abbrev three : Bool → Bool → Bool → Answer

@@ -22,7 +22,8 @@ use Rattle.rules.specs.Meanings.{Choice, Fits, FirstWide}
 use Rattle.rules.proofs.Claims.{no-10-exactly, answer-10}
 use Rattle.sheet.specs.Meanings.{NoEarlier, Spliced}
 use Rattle.sheet.proofs.Tables.{same-number, lacking, passed, under-table}
-use Rattle.sheet.proofs.Entry.{or-right, number-0, read-slot}
+use Rattle.sheet.proofs.Lengths.{or-right}
+use Rattle.sheet.proofs.Reading.{number-0, read-slot}
 use Rattle.rules.proofs.Lengths.{composed-few}
 use Rattle.sheet.proofs.Words.{slot-records, slot-clinic, slot-line-count, slot-lines}
 use Rattle.rules.proofs.Words.{length-records}

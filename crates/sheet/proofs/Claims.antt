@@ -19,7 +19,7 @@ use Rattle.sheet.specs.Book.{Call, call-edit, call-read, Reply, numberOf
 use Rattle.sheet.specs.Meanings.{Outside, AlikeFor, NoEarlier, Spliced}
 use Rattle.sheet.specs.declared.Clinic.{Clinic}
 use Rattle.sheet.specs.declared.SlotNumber.{SlotNumber}
-use Rattle.sheet.proofs.Entry.{read-slot, read-none, part-words}
+use Rattle.sheet.proofs.Reading.{read-slot, read-none, part-words}
 use Rattle.sheet.proofs.Frame.{edit-frame, refused-unchanged, step-length}
 use Rattle.sheet.proofs.Changes.{accepted-edit, read-after, found-0, exactly-10, place-10}
 use Rattle.sheet.proofs.Alike.{same-reply}

@@ -1,7 +1,9 @@
 -- Laws of the calls on a sheet and of the book, each file leaning on those above it. `Claims` states what is proved,
 -- in reading order.
 pub mod Tables
+pub mod Lengths
 pub mod Entry
+pub mod Reading
 pub mod Lists
 pub mod Fresh
 pub mod Words

@@ -16,7 +16,7 @@ use Rattle.rules.specs.Refusals.{Answer, says, Outcome, orElse, badSlot, freshS
 use Rattle.rules.proofs.Facts.{tested}
 use Rattle.sheet.specs.Lists.{Matched}
 use Rattle.sheet.proofs.Tables.{same-number}
-use Rattle.sheet.proofs.Entry.{or-left, or-right, whole}
+use Rattle.sheet.proofs.Lengths.{or-left, or-right, whole}
 
 module _ (cs ms xs : List ℕ) where
   abbrev good : ℕ → Bool

@@ -20,7 +20,7 @@ use Rattle.sheet.specs.Book.{BookSlot, withRecords, bookEditRows, bookEd
 use Rattle.sheet.specs.Book.{encodeSlot, freshSlot, singleOf, single}
 use Rattle.rules.proofs.Words.{length-records}
 use Rattle.sheet.proofs.Tables.{passed}
-use Rattle.sheet.proofs.Entry.{or-right}
+use Rattle.sheet.proofs.Lengths.{or-right}
 use Rattle.sheet.proofs.Words.{length-record-words, records-again}
 use Rattle.sheet.proofs.Words.{slot-clinic, slot-measure, slot-indent, slot-count, slot-records, slot-fresh}
 use Rattle.sheet.proofs.Encode.{Sound, none-right}

@@ -7,7 +7,8 @@ use lib.ListN.{length}
 use borrow.Author.Needs.{needs}
 use denote.Ref.{now}
 use Rattle.rules.specs.Sheet.{lengthOk}
-use Rattle.sheet.proofs.Entry.{clinic-at, without-slots, with-slots, starts-within}
+use Rattle.sheet.proofs.Entry.{clinic-at}
+use Rattle.sheet.proofs.Lengths.{without-slots, with-slots, starts-within}
 use Rattle.sheet.proofs.Entry.{called-0, called-1, called-2, called-3}
 use Rattle.sheet.proofs.called.Statement.{statement}
 use Rattle.sheet.proofs.called.Tie as tie

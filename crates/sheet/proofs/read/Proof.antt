@@ -6,7 +6,7 @@ use lib.ListN.{length}
 use Rattle.rules.specs.Refusals.{readStart, readLength}
 use borrow.Author.Needs.{needs}
 use denote.Ref.{now}
-use Rattle.sheet.proofs.Entry.{read-fits, part-is}
+use Rattle.sheet.proofs.Reading.{read-fits, part-is}
 use Rattle.sheet.proofs.read.Statement.{statement}
 use Rattle.sheet.proofs.read.Tie as tie
 

@@ -6,7 +6,8 @@ use borrow.Author.Tests.{lt-ltb, le-ltb}
 use denote.Ref.{now}
 use Rattle.rules.specs.Refusals.{called}
 use Rattle.sheet.proofs.Tables.{same-number}
-use Rattle.sheet.proofs.Entry.{entered, number-refused, number-entered}
+use Rattle.sheet.proofs.Entry.{entered}
+use Rattle.sheet.proofs.Reading.{number-refused, number-entered}
 use Rattle.sheet.proofs.read_number.Statement.{statement}
 use Rattle.sheet.proofs.read_number.Tie as tie
 

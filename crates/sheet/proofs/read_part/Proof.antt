@@ -4,7 +4,8 @@ use native.Mathlib.Omega.{arith}
 use borrow.Author.Needs.{needs}
 use denote.Ref.{now}
 use Rattle.rules.specs.Refusals.{called}
-use Rattle.sheet.proofs.Entry.{entered, number-under, number-over, number-called, read-refused, read-opened}
+use Rattle.sheet.proofs.Entry.{entered}
+use Rattle.sheet.proofs.Reading.{number-under, number-over, number-called, read-refused, read-opened}
 use Rattle.sheet.proofs.read_part.Statement.{statement}
 use Rattle.sheet.proofs.read_part.Tie as tie
 

@@ -1,6 +1,6 @@
 -- `sheet::slot_count` meets its contract. Assumes nothing.
 use borrow.Author.Needs.{needs}
-use Rattle.sheet.proofs.Entry.{none-beside, some-exact, none-inexact}
+use Rattle.sheet.proofs.Lengths.{none-beside, some-exact, none-inexact}
 use Rattle.sheet.proofs.slot_count.Statement.{statement}
 use Rattle.sheet.proofs.slot_count.Tie as tie
 

@@ -1,0 +1,94 @@
+-- Laws of a sheet's length, and of the slots that it has. Assumes nothing.
+use mathlib.Core.Path.{_≡_, refl, _∙_}
+use Prim.Native.Nat.{ℕ, _-_, _*_, _/_, _%_, _≤_, _<_}
+use native.Mathlib.Omega.{arith}
+use mathlib.Core.Bool.{Bool, true, false, cond, _||_, and-true, and-false}
+use mathlib.Core.Logic.{inl, inr}
+use lib.Dec.{leb, ltb, eqb}
+use borrow.Author.Tests.{ltb-true, ltb-false, leb-true, le-leb, lt-leb}
+use borrow.Author.Tests.{eqb-true, eq-eqb, ne-eqb}
+use Rattle.rules.specs.Basics.{within}
+use Rattle.rules.specs.Sheet.{lengthOk}
+use Rattle.rules.proofs.Facts.{tested, true-false}
+use Rattle.rules.proofs.Limits.{and-left, and-right}
+
+pub or-left : (a b : Bool) → a || b ≡ false → a ≡ false
+or-left true b e = e
+or-left false b e = refl
+
+pub or-right : (a b : Bool) → a || b ≡ false → b ≡ false
+or-right true b e = absurd (true-false e)
+or-right false b e = e
+
+-- what a length within its limits says
+pub record Whole (n : ℕ) : Type 0 where
+  pub exact : n ≡ 2824 * (n / 2824)
+  pub some : 1 ≤ n / 2824
+  pub few : n / 2824 ≤ 64
+
+pub whole : (n : ℕ) → lengthOk n ≡ true → Whole n
+whole n e =
+    let d : n % 2824 ≡ 0 = eqb-true _ _ (and-left (eqb (n % 2824) 0) _ e) in
+    let w = and-right (eqb (n % 2824) 0) (within 1 64 (n / 2824)) e in
+    record {
+      exact = omega arith;
+      some = leb-true 1 _ (and-left (leb 1 (n / 2824)) (leb (n / 2824) 64) w);
+      few = leb-true _ 64 (and-right (leb 1 (n / 2824)) (leb (n / 2824) 64) w);
+    }
+
+-- the limits of a length, in words
+too-short : (n : ℕ) → n < 2824 → lengthOk n ≡ false
+too-short n h = rw (lt-leb 1 (n / 2824) (omega arith), and-false)
+
+too-long : (n : ℕ) → 180736 < n → lengthOk n ≡ false
+too-long n h =
+    elim (tested (eqb (n % 2824) 0)) [
+      | inl e ↦ let d = eqb-true (n % 2824) 0 e in rw (e, lt-leb (n / 2824) 64 (omega arith), and-false)
+      | inr e ↦ rw e
+    ]
+
+within-limits : (n : ℕ) → 2824 ≤ n → n ≤ 180736 → lengthOk n ≡ eqb (n % 2824) 0
+within-limits n a b = rw (le-leb 1 (n / 2824) (omega arith), le-leb (n / 2824) 64 (omega arith), and-true)
+
+-- the slots of a sheet of n words, 0 where its length is not within its limits
+module _ (n : ℕ) where
+  abbrev slots : ℕ
+  slots = cond (lengthOk n) (n / 2824) 0
+
+  abbrev beside : Bool
+  beside = ltb n 2824 || ltb 180736 n
+
+  pub none-beside : beside ≡ true → 0 ≡ slots
+  none-beside e =
+      elim (tested (ltb n 2824)) [
+        | inl p ↦ rw (too-short n (ltb-true n 2824 p))
+        | inr p ↦ rw (too-long n (ltb-true 180736 n (rw p at e)))
+      ]
+
+  between : beside ≡ false → lengthOk n ≡ eqb (n % 2824) 0
+  between e =
+      within-limits n (ltb-false n 2824 (or-left _ (ltb 180736 n) e)) (ltb-false 180736 n (or-right (ltb n 2824) _ e))
+
+  pub some-exact : beside ≡ false → 2824 * (n / 2824) ≡ n → n / 2824 ≡ slots
+  some-exact e q = rw (between e ∙ eq-eqb (n % 2824) 0 (omega (arith, q)))
+
+  pub none-inexact : beside ≡ false → (2824 * (n / 2824) ≡ n → ⊥) → 0 ≡ slots
+  none-inexact e q = rw (between e ∙ ne-eqb (n % 2824) 0 (λ z. q (omega (arith, z))))
+
+  pub without-slots : {p : ℕ} → p ≡ slots → p ≡ 0 → lengthOk n ≡ false
+  without-slots {p} e z =
+      elim (tested (lengthOk n)) [
+        | inl o ↦ let d : p ≡ n / 2824 = rw o at e in absurd (omega (arith, whole n o .some))
+        | inr o ↦ o
+      ]
+
+  pub with-slots : {p : ℕ} → p ≡ slots → (p ≡ 0 → ⊥) → (lengthOk n ≡ true) × (p ≡ n / 2824)
+  with-slots {p} e z =
+      elim (tested (lengthOk n)) [
+        | inl o ↦ (o, rw o at e)
+        | inr o ↦ absurd (z (rw o at e))
+      ]
+
+  -- where a slot starts
+  pub starts-within : (k : ℕ) → lengthOk n ≡ true → k < n / 2824 → 2824 * k < n
+  starts-within k e h = omega (arith, whole n e .exact)

@@ -1,0 +1,133 @@
+-- Laws of a read: its number, and the words that it hands back. Assumes nothing.
+use mathlib.Core.Path.{_≡_, refl, sym, _∙_}
+use Prim.Native.Nat.{ℕ, _+_, _-_, _*_, _≤_, _<_}
+use native.Mathlib.Omega.{arith}
+use mathlib.Core.Bool.{cond}
+use mathlib.Core.List.{List, []}
+use mathlib.Core.Logic.{inl, inr}
+use lib.Dec.{ltb, eqb}
+use lib.ListN.{length, getD, take, drop, length-drop}
+use lib.Seq.{length-take-le}
+use borrow.Author.Tests.{ltb-false, lt-ltb, le-ltb}
+use borrow.Author.Tests.{eqb-true, eqb-false, eq-eqb, ne-eqb}
+use Rattle.rules.specs.Basics.{within}
+use Rattle.rules.specs.Sheet.{lineCountOf, slotAt}
+use Rattle.rules.specs.Refusals.{called}
+use Rattle.rules.specs.Refusals.{readNumber, readStart, readLength, readPart, readWords}
+use Rattle.rules.proofs.Facts.{tested}
+use Rattle.sheet.proofs.Lengths.{whole}
+use Rattle.sheet.proofs.Entry.{word-at, part-of-slot, Entered, entered}
+
+module _ (ws : List ℕ) (caller k : ℕ) where
+  pub number-refused : (n : ℕ) → n ≡ called ws caller k .number → (n ≡ 0 → ⊥) → n ≡ readNumber ws caller k
+  unfolding readNumber
+  number-refused n e z = rw (← e, ne-eqb n 0 z)
+
+  pub number-entered : called ws caller k .number ≡ 0 →
+      readNumber ws caller k ≡ cond (ltb 256 (getD ws (2824 * k + 4) 0)) 4 0
+  unfolding readNumber
+  number-entered z = rw (eq-eqb _ _ z, word-at ws k 4 (omega arith))
+
+  -- what a read that is not refused knows of the sheet
+  pub record Readable : Type 0 where
+    pub entry : Entered ws caller k
+    pub few : getD ws (2824 * k + 4) 0 ≤ 256
+
+  pub number-called : readNumber ws caller k ≡ 0 → called ws caller k .number ≡ 0
+  number-called z =
+      elim (tested (eqb (called ws caller k .number) 0)) [
+        | inl t ↦ eqb-true _ _ t
+        | inr t ↦ number-refused _ refl (eqb-false _ _ t) ∙ z
+      ]
+
+  pub readable : readNumber ws caller k ≡ 0 → Readable
+  readable z =
+      let h = number-called z in
+      record { entry = entered ws caller k h; few = under (sym (number-entered h) ∙ z) }
+    where
+      under : _≡_ {A = ℕ} (cond (ltb 256 (getD ws (2824 * k + 4) 0)) 4 0) 0 → getD ws (2824 * k + 4) 0 ≤ 256
+      under e =
+          elim (tested (ltb 256 (getD ws (2824 * k + 4) 0))) [
+            | inl l ↦ let y : _≡_ {A = ℕ} 4 0 = rw l at e in absurd (omega arith)
+            | inr l ↦ ltb-false _ _ l
+          ]
+
+  -- the words handed back
+  pub read-refused : (readNumber ws caller k ≡ 0 → ⊥) → (readStart ws caller k ≡ 0) × (readLength ws caller k ≡ 0)
+  unfolding readStart readLength
+  read-refused z = let e = ne-eqb _ _ z in (rw e, rw e)
+
+  pub read-opened : readNumber ws caller k ≡ 0 →
+      (readStart ws caller k ≡ 2824 * k + 2056) × (readLength ws caller k ≡ 3 * getD ws (2824 * k + 4) 0)
+  unfolding readStart readLength
+  read-opened z = let e = eq-eqb _ _ z in (rw e, rw (e, word-at ws k 4 (omega arith)))
+
+  -- by the line count
+  pub number-under : called ws caller k .number ≡ 0 → getD ws (2824 * k + 4) 0 ≤ 256 → readNumber ws caller k ≡ 0
+  number-under z h = rw (number-entered z, le-ltb _ _ h)
+
+  pub number-0 : called ws caller k .number ≡ 0 → lineCountOf (slotAt ws k) ≤ 256 → readNumber ws caller k ≡ 0
+  number-0 z h = number-under z (rw (word-at ws k 4 (omega arith)) at h)
+
+  pub number-over : called ws caller k .number ≡ 0 → 256 < getD ws (2824 * k + 4) 0 → readNumber ws caller k ≡ 0 → ⊥
+  number-over z h e = let y : _≡_ {A = ℕ} 4 0 = rw (lt-ltb _ _ h) at (sym (number-entered z) ∙ e) in omega arith
+
+  -- the part that a read hands back lies within the sheet, and within any sheet's limits
+  pub record Fits : Type 0 where
+    pub inside : readStart ws caller k + readLength ws caller k ≤ length ws
+    pub small : readStart ws caller k + readLength ws caller k ≤ 180736
+
+  pub read-fits : Fits
+  read-fits =
+      elim (tested (eqb (readNumber ws caller k) 0)) [
+        | inl t ↦
+            let z = eqb-true (readNumber ws caller k) 0 t in
+            let r = readable z in
+            let o = read-opened z in
+            let e = r .entry in
+            record {
+              inside = omega (arith, o .0, o .1, r .few, e .whole .exact, e .within);
+              small = omega (arith, o .0, o .1, r .few, e .whole .few, e .within);
+            }
+        | inr t ↦
+            let o = read-refused (eqb-false (readNumber ws caller k) 0 t) in
+            record { inside = omega (arith, o .0, o .1); small = omega (arith, o .0, o .1) }
+      ]
+
+  -- a part of the sheet that starts and is as long as a read says is what the read hands back
+  pub record Part (part : List ℕ) (from : ℕ) : Type 0 where
+    pub words : part ≡ readWords ws caller k
+    pub count : length part ≡ readLength ws caller k
+    pub place : from ≡ readStart ws caller k
+
+  pub part-is : (start n : ℕ) → start ≡ readStart ws caller k → n ≡ readLength ws caller k → start + n ≤ length ws →
+      Part (take n (drop start ws)) start
+  unfolding readWords
+  part-is start n e f h =
+      record {
+        words = rw (e, f);
+        count = length-take-le n (drop start ws) (rw length-drop (omega arith)) ∙ f;
+        place = e;
+      }
+
+  -- a read that is not refused hands back the slot's used line words
+  pub read-slot : readNumber ws caller k ≡ 0 →
+      readWords ws caller k ≡ take (3 * lineCountOf (slotAt ws k)) (drop 2056 (slotAt ws k))
+  unfolding readWords
+  read-slot z =
+      let r = read-opened z in
+      let few = readable z .few in
+      let n : ℕ = 3 * getD ws (2824 * k + 4) 0 in
+      rw (r .0, r .1, word-at ws k 4 (omega arith)) (part-of-slot ws k 2056 n (omega arith))
+
+  pub read-none : (readNumber ws caller k ≡ 0 → ⊥) → readWords ws caller k ≡ []
+  unfolding readWords
+  read-none z = let r = read-refused z in rw (r .0, r .1)
+
+  -- by its start and end
+  pub part-words : let p = readPart ws caller k in take (p .1 - p .0) (drop (p .0) ws) ≡ readWords ws caller k
+  unfolding readWords
+  part-words =
+      let n : readStart ws caller k + readLength ws caller k - readStart ws caller k ≡ readLength ws caller k
+      = omega arith in
+      rw n
