@@ -1,20 +1,17 @@
 -- What an accepted edit does on a sheet of any words, and when answer 10 is given. Assumes nothing.
 use mathlib.Core.Path.{_≡_, refl, sym, ap, _∙_}
-use Prim.Native.Nat.{ℕ, _+_, _-_, _≤_}
+use Prim.Native.Nat.{ℕ, _-_, _≤_}
 use native.Mathlib.Omega.{arith}
 use mathlib.Core.Bool.{true}
 use mathlib.Core.List.{List}
 use mathlib.Core.Logic.{_↔_}
 use mathlib.Core.Option.{Option, none, some}
-use lib.Dec.{ltb}
-use lib.ListN.{length, drop}
-use borrow.Author.Tests.{eq-eqb, ltb-false}
+use lib.ListN.{length}
 use Rattle.rules.specs.Basics.{Run}
-use Rattle.rules.specs.Records.{Rec, badRecord}
-use Rattle.rules.specs.Groups.{TextUnit, groupFault, units}
+use Rattle.rules.specs.Groups.{TextUnit, units}
 use Rattle.rules.specs.Breaks.{runs, noBreaking}
 use Rattle.rules.specs.Adjustment.{compose}
-use Rattle.rules.specs.Sheet.{lineWords, slotWords, clinicOf, measureOf, indentOf, countOf, lineCountOf, recordsOf}
+use Rattle.rules.specs.Sheet.{lineWords, slotWords, clinicOf, measureOf, indentOf, lineCountOf}
 use Rattle.rules.specs.Sheet.{slotAt}
 use Rattle.rules.specs.Refusals.{Answer, says, Outcome, orElse, judged, edited, slotRows, editSlot}
 use Rattle.rules.specs.Refusals.{callRows, called, edit, readNumber, readWords}
@@ -22,97 +19,14 @@ use Rattle.rules.specs.Meanings.{Choice, Fits, FirstWide}
 use Rattle.rules.proofs.Claims.{no-10-exactly, answer-10}
 use Rattle.sheet.specs.Meanings.{NoEarlier, Spliced}
 use Rattle.sheet.proofs.Tables.{same-number, lacking, passed, under-table}
-use Rattle.sheet.proofs.Lengths.{or-right}
 use Rattle.sheet.proofs.Reading.{number-0, read-slot}
 use Rattle.rules.proofs.Lengths.{composed-few}
-use Rattle.sheet.proofs.Words.{slot-records, slot-clinic, slot-line-count, slot-lines}
-use Rattle.rules.proofs.Words.{length-records}
+use Rattle.sheet.proofs.Words.{slot-clinic, slot-line-count, slot-lines}
 use Rattle.sheet.proofs.Alike.{called-alike}
-use Rattle.sheet.proofs.Frame.{Edited, entering, refusing, edit-cases, edit-entering, edit-length, edited-few}
+use Rattle.sheet.proofs.Frame.{Edited, entering, refusing, edit-cases, edit-entering, edit-length}
 use Rattle.sheet.proofs.Frame.{room, length-outcome, slot-with}
-
--- Judged ------------------------------------------------------------------------------------------------------------
-
-abbrev by : Option ℕ → Option ℕ → Option ℕ → ℕ → Answer
-by p q r n = orElse 8 p (orElse 9 q (orElse 10 r (says 0 n)))
-
-by-0 : (p q r : Option ℕ) (n : ℕ) → by p q r n .number ≡ 0 → (r ≡ none) × (by p q r n ≡ says 0 n)
-by-0 none none none n e = (refl, refl)
-by-0 none none (some i) n e = absurd (omega (arith, e))
-by-0 none (some i) r n e = absurd (omega (arith, e))
-by-0 (some i) q r n e = absurd (omega (arith, e))
-
-by-10 : (p q r : Option ℕ) (n : ℕ) → by p q r n .number ≡ 10 → r ≡ some (by p q r n .place)
-by-10 none none none n e = absurd (omega (arith, e))
-by-10 none none (some i) n e = refl
-by-10 none (some i) r n e = absurd (omega (arith, e))
-by-10 (some i) q r n e = absurd (omega (arith, e))
-
-module _ (m x : ℕ) (rs : List Rec) where
-  judged-0 : judged m x rs .number ≡ 0 →
-      (noBreaking m x (units rs) ≡ none) × (judged m x rs ≡ says 0 (length (compose m x (units rs))))
-  unfolding judged
-  judged-0 e = by-0 (badRecord 0 rs) (groupFault rs) _ _ e
-
-  judged-10 : judged m x rs .number ≡ 10 → noBreaking m x (units rs) ≡ some (judged m x rs .place)
-  unfolding judged
-  judged-10 e = by-10 (badRecord 0 rs) (groupFault rs) _ _ e
-
--- One slot ----------------------------------------------------------------------------------------------------------
-
-module _ (s : List ℕ) (place deleted : ℕ) (inserted : List ℕ) where
-  abbrev done : Outcome
-  done = editSlot s place deleted inserted
-
-  abbrev new : List Rec
-  new = edited s place deleted inserted
-
-  abbrev composed : List ℕ
-  composed = slotWords (clinicOf s) (measureOf s) (indentOf s) new
-
-  abbrev lineCount : ℕ
-  lineCount = length (compose (measureOf s) (indentOf s) (units new))
-
-  -- where the rows 4 to 7 do not apply, the stretch is within the records and the answer is the new records' own
-  pub record Judged : Type 0 where
-    pub fits : place + deleted ≤ length (recordsOf s)
-    pub answer : done .0 ≡ judged (measureOf s) (indentOf s) new
-
-  slot-judged : (n : ℕ) → lacking n (slotRows s place deleted inserted) ≡ true → done .0 .number ≡ n → Judged
-  unfolding editSlot slotRows
-  slot-judged n l z =
-      let p = passed n (slotRows s place deleted inserted) _ l z .0 in
-      let c : place + deleted ≤ countOf s = ltb-false _ _ (or-right (ltb (countOf s) place) _ (p .1 .0)) in
-      record {
-        fits = omega (arith, length-records (drop 8 s) 0 (countOf s));
-        answer = under-table (slotRows s place deleted inserted) _ p;
-      }
-
-  -- accepted
-  accepted-few : done .0 .number ≡ 0 → length new ≤ 256
-  unfolding editSlot
-  accepted-few z = edited-few s place deleted inserted z
-
-  slot-accepted : done .0 .number ≡ 0 → done ≡ (says 0 lineCount, composed)
-  unfolding editSlot slotRows
-  slot-accepted z =
-      let j = slot-judged 0 refl z .answer in
-      let a = judged-0 (measureOf s) (indentOf s) new (same-number (sym j) ∙ z) .1 in
-      rw (eq-eqb _ _ z) (ap (λ (o : Answer). (o, composed)) (j ∙ a))
-
-  slot-spliced : {o : Outcome} → place + deleted ≤ length (recordsOf s) →
-      _≡_ {A = Outcome} o (says 0 lineCount, composed) → Spliced s (o .1) (o .0) place deleted inserted
-  slot-spliced h e =
-      rw e
-      (let r = slot-records (clinicOf s) (measureOf s) (indentOf s) new in
-      record {
-        fits = h;
-        changed = r;
-        composed = ap (slotWords (clinicOf s) (measureOf s) (indentOf s)) (sym r);
-        lines = ap (λ rs. length (compose (measureOf s) (indentOf s) (units rs))) (sym r);
-      })
-
--- The sheet ---------------------------------------------------------------------------------------------------------
+use Rattle.sheet.proofs.SlotChanges.{judged-0, judged-10, slot-judged, accepted-few}
+use Rattle.sheet.proofs.SlotChanges.{slot-accepted, slot-spliced}
 
 module _ (ws : List ℕ) (caller k place deleted : ℕ) (inserted : List ℕ) where
   abbrev before : List ℕ

@@ -1,7 +1,7 @@
 -- What is proved of the calls on a sheet, in reading order: each claim is proved by one citation. The words of the
 -- claims are defined in specs/Book.antt and specs/Meanings.antt; runs of calls, and what demand 3 says of them, in
--- proofs/Runs.antt and at the top of proofs/Histories.antt; the rules in crate `rules`, whose own proofs/Claims.antt
--- has what is proved of them alone. Assumes nothing.
+-- proofs/Runs.antt and proofs/Booked.antt; the rules in crate `rules`, whose own proofs/Claims.antt has what is proved
+-- of them alone. Assumes nothing.
 use mathlib.Core.Path.{_≡_, refl}
 use Prim.Native.Nat.{ℕ, _-_, _*_}
 use mathlib.Core.List.{List, []}
@@ -24,7 +24,8 @@ use Rattle.sheet.proofs.Frame.{edit-frame, refused-unchanged, step-leng
 use Rattle.sheet.proofs.Changes.{accepted-edit, read-after, found-0, exactly-10, place-10}
 use Rattle.sheet.proofs.Alike.{same-reply}
 use Rattle.sheet.proofs.Runs.{Run, call, before, after, reply, Chained, told}
-use Rattle.sheet.proofs.Histories.{Begun, AsBooked, as-booked}
+use Rattle.sheet.proofs.Booked.{Begun, AsBooked}
+use Rattle.sheet.proofs.Histories.{as-booked}
 use Rattle.sheet.proofs.setting.set_up.Statement as set-up-contract
 use Rattle.sheet.proofs.setting.set_up.Met as set-up-met
 use Rattle.sheet.proofs.edit.Statement as edit-contract

@@ -10,10 +10,13 @@ pub mod Words
 pub mod Encode
 pub mod Slots
 pub mod Steps
+pub mod Stays
 pub mod Sequences
 pub mod Frame
 pub mod Alike
+pub mod SlotChanges
 pub mod Changes
 pub mod Runs
+pub mod Booked
 pub mod Histories
 pub mod Claims

@@ -18,7 +18,8 @@ use Rattle.sheet.specs.Book.{answered, bookRead, bookStep, encode, inWor
 use Rattle.sheet.proofs.Tables.{passed}
 use Rattle.sheet.proofs.Lists.{misfit}
 use Rattle.sheet.proofs.Encode.{WellFormed, encode-empty}
-use Rattle.sheet.proofs.Steps.{agrees, stays, new-book}
+use Rattle.sheet.proofs.Steps.{agrees}
+use Rattle.sheet.proofs.Stays.{stays, new-book}
 
 -- from a well-formed book on
 pub sequence : (n : ℕ) (cs : List Call) (b : List BookSlot) → WellFormed n b →

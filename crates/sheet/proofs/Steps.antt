@@ -3,13 +3,13 @@
 use mathlib.Core.Path.{_≡_, refl, sym, ap, _∙_}
 use Prim.Native.Nat.{ℕ, _-_, _*_, _/_, _≤_, _<_}
 use native.Mathlib.Omega.{arith}
-use mathlib.Core.Bool.{Bool, true, false, cond}
+use mathlib.Core.Bool.{cond}
 use mathlib.Core.List.{List, []}
 use mathlib.Core.Logic.{inl, inr}
 use lib.Dec.{eqb}
-use lib.ListN.{length, take, drop, set, length-set}
+use lib.ListN.{length, take, drop, set}
 use lib.Seq.{set-getD}
-use borrow.Author.Tests.{eqb-true, eqb-false, le-ltb}
+use borrow.Author.Tests.{eqb-true, le-ltb}
 use Rattle.rules.specs.Groups.{units}
 use Rattle.rules.specs.Adjustment.{compose}
 use Rattle.rules.specs.Sheet.{slotAt}
@@ -17,17 +17,16 @@ use Rattle.rules.specs.Refusals.{Answer, Outcome, callRows, called, edit, setUp
 use Rattle.rules.specs.Refusals.{readNumber, readStart, readLength, readWords}
 use Rattle.rules.proofs.Facts.{tested}
 use Rattle.sheet.specs.Book.{Call, call-set-up, call-edit, call-read, answered, handed, step}
-use Rattle.sheet.specs.Book.{BookSlot, bookAt, emptySlots, bookSetUp, bookCallRows, bookCalled, bookEditRows}
+use Rattle.sheet.specs.Book.{BookSlot, bookAt, bookSetUp, bookCallRows, bookCalled, bookEditRows}
 use Rattle.sheet.specs.Book.{bookEdited, bookAnswer, bookEdit, bookLines, bookRead, bookStep}
 use Rattle.sheet.specs.Book.{encodeSlot, encode, inWords}
 use Rattle.sheet.proofs.Tables.{same-number, then-table}
 use Rattle.sheet.proofs.Entry.{entered, part-of-slot}
-use Rattle.sheet.proofs.Lists.{accepted, accepted-limits}
 use Rattle.rules.proofs.Lengths.{composed-few}
 use Rattle.sheet.proofs.Words.{slot-line-count, slot-lines}
-use Rattle.sheet.proofs.Encode.{Sound, WellFormed, all-at, all-set, length-encode, slot-of, with-slot}
-use Rattle.sheet.proofs.Encode.{clinic-of, encode-empty, length-empty, sound-empty}
-use Rattle.sheet.proofs.Slots.{slotAnswer, slotAfter, edited-sound, slot-edits}
+use Rattle.sheet.proofs.Encode.{Sound, WellFormed, all-at, length-encode, slot-of, with-slot}
+use Rattle.sheet.proofs.Encode.{clinic-of, encode-empty}
+use Rattle.sheet.proofs.Slots.{slotAnswer, slotAfter, slot-edits}
 
 module _ (n : ℕ) (b : List BookSlot) (g : WellFormed n b) where
   pub exact : length (encode b) ≡ n
@@ -61,12 +60,12 @@ module _ (n : ℕ) (b : List BookSlot) (g : WellFormed n b) where
     abbrev slot : BookSlot
     slot = bookAt b k
 
-    assigned : first .number ≡ 0 → slot .clinic ≡ 0 → ⊥
+    pub assigned : first .number ≡ 0 → slot .clinic ≡ 0 → ⊥
     assigned z c =
         let e = entered (encode b) caller k (same-number same-called ∙ z) in
         e .known (e .own ∙ clinic-of b (g .sound) k ∙ c)
 
-    here : first .number ≡ 0 → Sound slot
+    pub here : first .number ≡ 0 → Sound slot
     here z = all-at (g .sound) k _ (in-book z)
 
     found : first .number ≡ 0 → slotAt (encode b) k ≡ encodeSlot slot
@@ -78,7 +77,7 @@ module _ (n : ℕ) (b : List BookSlot) (g : WellFormed n b) where
       answer = slotAnswer place deleted inserted slot
 
       -- the book's table is the rows 1 to 3, then those of the slot
-      two-tables : bookAnswer n caller k place deleted inserted b ≡ cond (eqb (first .number) 0) answer first
+      pub two-tables : bookAnswer n caller k place deleted inserted b ≡ cond (eqb (first .number) 0) answer first
       unfolding bookAnswer bookCallRows
       two-tables = then-table (bookCallRows n caller k b) (bookEditRows place deleted inserted slot) _ refl
 
@@ -139,65 +138,3 @@ module _ (n : ℕ) (b : List BookSlot) (g : WellFormed n b) where
   agrees (call-edit c k place deleted inserted) =
       ap (λ (o : Outcome). (answered (o .0), o .1)) (edits (c .0) (k .0) place deleted inserted)
   agrees (call-read c k) = ap (λ r. (r, encode b)) (reads (c .0) (k .0))
-
--- The book stays well-formed ----------------------------------------------------------------------------------------
-
--- an accepted set-up starts a well-formed book, whatever there was before
-pub new-book : (n : ℕ) (cs ms xs : List ℕ) → setUpAnswer n cs ms xs .number ≡ 0 →
-    WellFormed n (emptySlots 0 cs ms xs (n / 2824))
-new-book n cs ms xs z =
-    let f = accepted cs ms xs n z in
-    let w : WellFormed n (emptySlots 0 cs ms xs (length cs))
-    = record {
-      sound = sound-empty cs ms xs 0 (length cs) (accepted-limits cs ms xs n z);
-      exact = rw length-empty (f .exact);
-      some = rw length-empty (f .some);
-      few = rw length-empty (f .few);
-    } in
-    rw (← f .slots) w
-
-module _ (n : ℕ) (b : List BookSlot) (g : WellFormed n b) where
-  -- an accepted edit passed both tables, and leaves a sound slot
-  module _ (caller k place deleted : ℕ) (inserted : List ℕ) where
-    abbrev one : Answer
-    one = bookCalled n caller k b
-
-    abbrev two : Answer
-    two = slotAnswer place deleted inserted (bookAt b k)
-
-    abbrev new : BookSlot
-    new = bookEdited place deleted inserted (bookAt b k)
-
-    edit-sound : (t : Bool) → eqb (one .number) 0 ≡ t → cond t two one .number ≡ 0 → Sound new
-    edit-sound true e z =
-        let y = eqb-true _ _ e in
-        edited-sound place deleted inserted (bookAt b k) (here n b g caller k y) (assigned n b g caller k y) z
-    edit-sound false e z = absurd (eqb-false _ _ e z)
-
-    edit-stays : WellFormed n (bookEdit n caller k place deleted inserted b .1)
-    unfolding bookEdit
-    edit-stays =
-        rw (two-tables n b g caller k place deleted inserted)
-        (elim (tested (eqb (cond (eqb (one .number) 0) two one .number) 0)) [
-          | inl e ↦ rw e (with-sound new (edit-sound _ refl (eqb-true _ _ e)))
-          | inr e ↦ rw e g
-        ])
-      where
-        with-sound : (t : BookSlot) → Sound t → WellFormed n (set b k t)
-        with-sound t h =
-            record {
-              sound = all-set (g .sound) k t h;
-              exact = rw length-set (g .exact);
-              some = rw length-set (g .some);
-              few = rw length-set (g .few);
-            }
-
-  pub stays : (c : Call) → WellFormed n (bookStep n c b .1)
-  unfolding bookSetUp
-  stays (call-set-up cs ms xs) =
-      elim (tested (eqb (setUpAnswer n cs ms xs .number) 0)) [
-        | inl e ↦ rw e (new-book n cs ms xs (eqb-true _ _ e))
-        | inr e ↦ rw e g
-      ]
-  stays (call-edit c k place deleted inserted) = edit-stays (c .0) (k .0) place deleted inserted
-  stays (call-read c k) = g
