@@ -94,8 +94,8 @@ module _ (ws : List ℕ) (caller k place deleted : ℕ) (inserted : List ℕ) wh
       Choice us (breaking m x (runs us)) × Fits m x (breaking m x (runs us)) × Longest m x (breaking m x (runs us))
   edit-lines h = lines-chosen m x us (found-0 ws caller k place deleted inserted h)
 
-  -- where no earlier answer is due, 10 is given exactly where no choice of permitted breaks fits, and the edit accepted
-  -- exactly where one does
+  -- where no earlier answer is due, 10 is given exactly where no choice of permitted breaks fits, and 0 exactly where
+  -- one does
   pub edit-10-exactly : NoEarlier ws caller k place deleted inserted →
       let fitting = (ls : List (RunOf TextUnit)) × Choice us ls × Fits m x ls in
       ((answer .number ≡ 10) ↔ (fitting → ⊥)) × ((answer .number ≡ 0) ↔ fitting)

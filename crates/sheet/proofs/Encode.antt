@@ -23,7 +23,8 @@ use Rattle.sheet.proofs.Words.{length-slot, slot-clinic, slot-fresh}
 
 -- Well-formed books -------------------------------------------------------------------------------------------------
 
--- a slot within its limits, whose records are at most 256 and fall under none of 8, 9 and 10; an unassigned one has none
+-- a slot within its limits, whose records are at most 256 and fall under none of 8, 9 and 10; an unassigned one has
+-- none
 pub record Sound (s : BookSlot) : Type 0 where
   pub limits : slotLimitsOk (s .clinic) (s .measure) (s .indent) ≡ true
   pub unassigned : s .clinic ≡ 0 → s .records ≡ []

@@ -45,8 +45,8 @@ AlikeFor (call-set-up cs ms xs) ws vs = length ws ≡ length vs
 AlikeFor (call-edit c k place deleted inserted) ws vs = Alike (c .0) (k .0) ws vs
 AlikeFor (call-read c k) ws vs = Alike (c .0) (k .0) ws vs
 
--- no answer before 10 is due on an edit: the rows 1 to 3 and 4 to 7 do not apply, and no record that would result breaks
--- its own rules or its group's
+-- no answer before 10 is due on an edit: the rows 1 to 3 and 4 to 7 do not apply, and no record that would result
+-- breaks its own rules or its group's
 pub record NoEarlier (ws : List ℕ) (caller k place deleted : ℕ) (inserted : List ℕ) : Type 0 where
   pub call : called ws caller k .number ≡ 0
   pub slot : firstOf (slotRows (slotAt ws k) place deleted inserted) (says 0 0) .number ≡ 0
