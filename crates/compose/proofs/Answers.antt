@@ -1,27 +1,26 @@
 -- Answers 8, 9 and 10 from the places that the searches give. Assumes nothing.
 use mathlib.Core.Path.{_≡_, refl, sym, ap, _∙_}
 use mathlib.Core.List.{List, [], _∷_, _++_}
-use mathlib.Core.Bool.{Bool, true, false, _&&_}
-use mathlib.Core.Logic.{_⊎_, inl, inr}
+use mathlib.Core.Bool.{_&&_}
+use mathlib.Core.Logic.{inl, inr}
 use mathlib.Core.Option.{Option, none, some}
-use Prim.Native.Nat.{ℕ, suc, _+_, _*_, _-_, _/_, _≤_, _<_}
+use Prim.Native.Nat.{ℕ, suc, _+_, _≤_, _<_}
 use native.Mathlib.Omega.{arith}
 use lib.Dec.{eqb, ltb}
 use borrow.Author.Tests.{eqb-true, eqb-false}
 use lib.ListN.{length}
-use Rattle.rules.specs.Basics.{Run, whole, joined}
+use Rattle.rules.specs.Basics.{joined}
 use Rattle.rules.specs.Records.{Rec, recOk, badRecord}
-use Rattle.rules.specs.Groups.{TextUnit, sameGroup, badGroup, groupFault, units, counts}
+use Rattle.rules.specs.Groups.{sameGroup, badGroup, groupFault, units, counts}
 use Rattle.rules.specs.Breaks.{bound, runs, noBreaking}
 use Rattle.rules.specs.Adjustment.{compose}
-use Rattle.rules.specs.Meanings.{FirstWide}
-use Rattle.rules.specs.Refusals.{Answer, says, orElse, judged}
+use Rattle.rules.specs.Refusals.{says, judged}
 use Rattle.rules.proofs.Facts.{tested, some-none, some-same}
 use Rattle.rules.proofs.Cuts.{cut-joined, joined-append}
 use Rattle.rules.proofs.Breaking.{counts-append, place-of-10}
 use Rattle.rules.proofs.Lengths.{counts-units, length-linesOf, composed-few}
 use Rattle.rules.proofs.Words.{length-records}
-use Rattle.compose.specs.Paragraph.{size, paragraph, placeOr, Checked}
+use Rattle.compose.specs.Paragraph.{size, paragraph, placeOr}
 use Rattle.compose.specs.Lines.{broken, composed, Broken, Written}
 use Rattle.compose.specs.Composed.{Accepted, Judged, Composed}
 

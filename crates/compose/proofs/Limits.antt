@@ -1,23 +1,19 @@
 -- The bounds of a checked paragraph: 256 records, sizes to 4,000, group advances to 128,000. Assumes nothing.
-use mathlib.Core.Path.{_≡_, refl, ap, sym, _∙_}
-use Prim.Native.Nat.{ℕ, zero, suc, _+_, _*_, _-_, _/_, _≤_, _<_}
+use mathlib.Core.Path.{_≡_, ap, _∙_}
+use Prim.Native.Nat.{ℕ, zero, suc, _+_, _*_, _-_, _≤_, _<_}
 use native.Mathlib.Omega.{arith}
-use native.Mathlib.Nat.{zero-add, le-trans, mul-le-mul-left}
-use mathlib.Core.Bool.{Bool, true, false, cond}
-use mathlib.Core.List.{List, [], _∷_, _++_}
-use mathlib.Core.Logic.{_⊎_, inl, inr}
-use lib.ListN.{length, drop}
-use Rattle.rules.specs.Basics.{Run, alone, whole, then}
-use Rattle.rules.specs.Records.{Rec, recAt, records}
-use Rattle.rules.specs.Groups.{TextUnit, sameGroup, units, count, counts, advances, baseTotal, advance, sideBy}
-use Rattle.rules.specs.Breaks.{Gap, bound, smallest, width}
+use mathlib.Core.List.{List}
+use mathlib.Core.Logic.{inl, inr}
+use lib.ListN.{drop}
+use Rattle.rules.specs.Records.{recAt, records}
+use Rattle.rules.specs.Groups.{sameGroup, units, count, advances, baseTotal, advance, sideBy}
+use Rattle.rules.specs.Breaks.{bound, smallest, width}
 use Rattle.rules.proofs.Facts.{tested, ordered}
 use Rattle.rules.proofs.Limits.{RecordBounds, record-bounds, records-ok, headCount, units-few, advance-bound-of}
 use Rattle.rules.proofs.Limits.{GapBounds, gap-bounds}
 use Rattle.rules.proofs.Words.{drop-records}
-use Rattle.compose.specs.Paragraph.{size, paragraph, from, unitAt, nextAt, gapAfter, runAt, runEnd, Checked}
-use Rattle.compose.proofs.Walk.{records-from, unit-step, unit-last, unit-more, run-step, run-last, run-more}
-use Rattle.compose.proofs.Walk.{run-width}
+use Rattle.compose.specs.Paragraph.{size, paragraph, from, unitAt, nextAt, gapAfter, runAt, Checked}
+use Rattle.compose.proofs.Walk.{records-from, unit-step, unit-last, unit-more, run-last, run-more, run-width}
 
 module _ (ws : List ℕ) (k : Checked ws) where
   dropped : (i : ℕ) → i < size ws → drop i (paragraph ws) ≡ records ws i (size ws - i)

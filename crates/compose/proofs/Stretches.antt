@@ -1,13 +1,11 @@
 -- The units between two records. Assumes nothing.
-use mathlib.Core.Path.{_≡_, refl, ap, sym, _∙_}
-use Prim.Native.Nat.{ℕ, zero, suc, _+_, _-_, _≤_, _<_}
+use mathlib.Core.Path.{_≡_, refl, ap, sym}
+use Prim.Native.Nat.{ℕ, suc, _+_, _-_, _≤_, _<_}
 use native.Mathlib.Omega.{arith}
-use native.Mathlib.Nat.{sub-self}
 use mathlib.Core.List.{List, [], _∷_, _++_}
 use lib.ListN.{length}
-use Rattle.rules.specs.Basics.{Run, whole, joined}
+use Rattle.rules.specs.Basics.{Run, whole}
 use Rattle.rules.specs.Groups.{TextUnit, count, counts}
-use Rattle.rules.proofs.Facts.{cons-path}
 use Rattle.compose.specs.Paragraph.{size, from, unitAt, nextAt}
 use Rattle.compose.specs.Lines.{upTo, lineAt}
 use Rattle.compose.proofs.Walk.{unit-step}

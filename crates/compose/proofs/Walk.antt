@@ -1,22 +1,22 @@
 -- A paragraph's units and runs, one after the other, as the loops meet them. Assumes nothing.
 use mathlib.Core.Path.{_≡_, refl, ap, sym, _∙_}
-use Prim.Native.Nat.{ℕ, zero, suc, _+_, _*_, _-_, _/_, _≤_, _<_}
+use Prim.Native.Nat.{ℕ, suc, _+_, _-_, _≤_, _<_}
 use native.Mathlib.Omega.{arith}
-use native.Mathlib.Nat.{add-assoc, add-zero, sub-zero, sub-self}
-use mathlib.Core.Bool.{Bool, true, false, cond}
+use native.Mathlib.Nat.{add-zero}
+use mathlib.Core.Bool.{Bool, true, cond}
 use mathlib.Core.List.{List, [], _∷_, _++_}
-use mathlib.Core.Logic.{_⊎_, inl, inr}
+use mathlib.Core.Logic.{inl, inr}
 use lib.ListN.{length, drop, length-append}
 use lib.Seq.{drop-at}
 use Rattle.rules.specs.Basics.{Run, alone, whole, then, joined, tie, cut}
-use Rattle.rules.specs.Records.{Rec, recAt, records}
+use Rattle.rules.specs.Records.{recAt, records}
 use Rattle.rules.specs.Groups.{TextUnit, sameGroup, units, count, counts, advance, sideBy}
 use Rattle.rules.specs.Breaks.{Gap, gap, forbidden, bound, least, smallest, width, runs}
 use Rattle.rules.specs.Meanings.{lastIn}
 use Rattle.rules.proofs.Facts.{tested, ordered, nil-cons}
 use Rattle.rules.proofs.Words.{length-records, drop-records}
 use Rattle.rules.proofs.Cuts.{cut-joined, cut-first, cut-tail}
-use Rattle.compose.specs.Paragraph.{size, paragraph, from, headOr, unitAt, nextAt, gapAfter, runAt, runEnd}
+use Rattle.compose.specs.Paragraph.{size, from, headOr, unitAt, nextAt, gapAfter, runAt, runEnd}
 
 -- records --------------------------------------------------------------------------------------------------------
 

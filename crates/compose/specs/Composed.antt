@@ -7,16 +7,15 @@
 --
 -- Assumes nothing.
 use mathlib.Core.Path.{_≡_}
-use Prim.Native.Nat.{ℕ, _+_, _*_, _≤_, _<_}
+use Prim.Native.Nat.{ℕ, _≤_}
 use mathlib.Core.List.{List}
 use mathlib.Core.Option.{none}
-use lib.ListN.{length}
 use Rattle.rules.specs.Groups.{units}
 use Rattle.rules.specs.Breaks.{noBreaking}
 use Rattle.rules.specs.Refusals.{says, judged}
 use Rattle.compose.specs.Paragraph.{size, paragraph, Checked}
 use Rattle.compose.specs.Tables.{UnitTable, GapTable, RunTable}
-use Rattle.compose.specs.Lines.{composed, Written}
+use Rattle.compose.specs.Lines.{Written}
 
 pub record Fitting (ws : List ℕ) (m x : ℕ) : Type 0 where
   pub few : size ws ≤ 256

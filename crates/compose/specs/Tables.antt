@@ -6,10 +6,10 @@
 --
 -- Assumes nothing.
 use mathlib.Core.Path.{_≡_}
-use Prim.Native.Nat.{ℕ, zero, suc, _+_, _*_, _-_, _≤_, _<_}
+use Prim.Native.Nat.{ℕ, _+_, _*_, _≤_, _<_}
 use mathlib.Core.List.{List, [], _∷_}
 use lib.ListN.{getD}
-use Rattle.rules.specs.Basics.{Run, whole}
+use Rattle.rules.specs.Basics.{whole}
 use Rattle.rules.specs.Groups.{count, counts, baseTotal, advance}
 use Rattle.rules.specs.Breaks.{Gap, gap as gapOf, least, width as widthOf}
 use Rattle.rules.specs.Meanings.{lastIn}

@@ -2,8 +2,8 @@
 ghost use mathlib.Core.Path.{_≡_};
 ghost use Prim.Native.Nat.{_<_};
 ghost use Rattle.rules.specs.Records.{recAt, badRecord};
-ghost use Rattle.rules.specs.Groups.{joins, groupFault, sideBy};
-ghost use Rattle.rules.specs.Values.{recordOf, sideOf};
+ghost use Rattle.rules.specs.Groups.{joins, groupFault};
+ghost use Rattle.rules.specs.Values.{recordOf};
 ghost use Rattle.compose.specs.Paragraph.{size, paragraph, placeOr};
 use rules::Record;
 use rules::record_ok;

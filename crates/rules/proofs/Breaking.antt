@@ -1,24 +1,24 @@
 -- Answer 10 and the breaking: the lines are a choice of permitted breaks in which every line fits and is the longest,
 -- and answer 10 is given exactly where there is no choice that fits. Assumes nothing.
 use mathlib.Core.Path.{_≡_, refl, ap, sym, subst, _∙_}
-use Prim.Native.Nat.{ℕ, zero, suc, _+_, _≤_, _<_}
+use Prim.Native.Nat.{ℕ, _+_, _≤_, _<_}
 use native.Mathlib.Omega.{arith}
-use native.Mathlib.Nat.{le-trans, zero-add, add-zero, add-assoc}
-use mathlib.Core.Bool.{Bool, true, false}
+use native.Mathlib.Nat.{le-trans}
+use mathlib.Core.Bool.{true, false}
 use mathlib.Core.List.{List, [], _∷_, _++_, append-assoc, append-nil}
-use mathlib.Core.Logic.{_⊎_, inl, inr, _↔_}
+use mathlib.Core.Logic.{inl, inr, _↔_}
 use mathlib.Core.Option.{Option, none, some}
 use lib.Dec.{leb}
 use borrow.Author.Tests.{leb-true, leb-false, le-leb}
 use Rattle.rules.specs.Basics.{Run, alone, whole, then, joined, tie, cut}
-use Rattle.rules.specs.Groups.{TextUnit, advance, count, counts}
+use Rattle.rules.specs.Groups.{TextUnit, advance, counts}
 use Rattle.rules.specs.Breaks.{bound, gap, least, smallest, width, runs, wideRun, noBreaking, filled, breaking}
-use Rattle.rules.specs.Meanings.{All, all-none, all-more, lastOf, lastIn, Tied, tied-one, tied-more, TiedRun}
+use Rattle.rules.specs.Meanings.{All, all-more, Tied, tied-one, tied-more, TiedRun}
 use Rattle.rules.specs.Meanings.{Apart, apart-none, apart-one, apart-more, Choice, Fits, fits-none, fits-more}
 use Rattle.rules.specs.Meanings.{EndsWell, at-end, at-break, Longest, longest-none, longest-more, startOf}
 use Rattle.rules.specs.Meanings.{FirstWide}
 use Rattle.rules.proofs.Facts.{tested, true-false, nil-cons, some-none, some-same, cons-path}
-use Rattle.rules.proofs.Cuts.{last-append, joined-append, cut-joined, cut-tied, cut-apart, cut-first, cut-split}
+use Rattle.rules.proofs.Cuts.{last-append, cut-joined, cut-tied, cut-apart, cut-first, cut-split}
 use Rattle.rules.proofs.Widths.{wider}
 
 -- Answer 10 --------------------------------------------------------------------------------------------------------

@@ -4,18 +4,17 @@
 -- A row wants, in one list: the answer's number and place (0 and the line count where it is accepted), the place
 -- words, the line words, and the offsets of the ruby characters of each group. Assumes nothing.
 use mathlib.Core.Path.{_≡_, refl}
-use Prim.Native.Nat.{ℕ, zero, suc, _+_, _*_, _-_, _/_}
+use Prim.Native.Nat.{ℕ, zero, suc, _-_}
 use mathlib.Core.Bool.{Bool, true, false, cond, _&&_}
-use mathlib.Core.List.{List, [], _∷_, _++_, map}
+use mathlib.Core.List.{List, [], _∷_, _++_}
 use lib.Dec.{eqb}
-use lib.ListN.{length}
-use Rattle.rules.specs.Basics.{Run, zeros}
+use Rattle.rules.specs.Basics.{zeros}
 use Rattle.rules.specs.Records.{Rec, recordWords}
 use Rattle.rules.specs.Groups.{TextUnit, units, baseTotal, rubyPlace}
 use Rattle.rules.specs.Breaks.{forbidden}
-use Rattle.rules.specs.Adjustment.{Line, compose}
+use Rattle.rules.specs.Adjustment.{compose}
 use Rattle.rules.specs.Sheet.{placeWords, lineWords, slotWords}
-use Rattle.rules.specs.Refusals.{Answer, judged}
+use Rattle.rules.specs.Refusals.{judged}
 use Rattle.rules.specs.Computed.{computed}
 
 -- the places of ruby characters k, k − 1, .. from the last of n on

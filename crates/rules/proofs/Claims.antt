@@ -1,17 +1,17 @@
 -- What is proved of document 01's rules, in reading order: each claim is stated in the words of specs/Meanings.antt
 -- and proved by one citation. Assumes nothing.
-use mathlib.Core.Path.{_≡_, refl, _∙_, sym}
-use Prim.Native.Nat.{ℕ, _+_, _-_, _/_, _≤_, _<_}
+use mathlib.Core.Path.{_≡_, _∙_, sym}
+use Prim.Native.Nat.{ℕ, _+_, _/_, _≤_, _<_}
 use mathlib.Core.Bool.{Bool, true, false}
-use mathlib.Core.List.{List, [], _∷_, _++_}
+use mathlib.Core.List.{List, _∷_, _++_}
 use mathlib.Core.Logic.{_↔_}
-use mathlib.Core.Option.{Option, none, some}
+use mathlib.Core.Option.{none, some}
 use lib.ListN.{length, getD}
-use Rattle.rules.specs.Basics.{Run, whole, joined}
+use Rattle.rules.specs.Basics.{Run, whole}
 use Rattle.rules.specs.Records.{Rec}
 use Rattle.rules.specs.Groups.{TextUnit, sameGroup, units, advance, groupAdvance, baseOffsets, rubyOffset}
 use Rattle.rules.specs.Breaks.{Gap, bound, width, runs, noBreaking, breaking}
-use Rattle.rules.specs.Adjustment.{amountsOf, totals, natural, Line, lineOf}
+use Rattle.rules.specs.Adjustment.{amountsOf, totals, natural, lineOf}
 use Rattle.rules.specs.Meanings.{All, lastOf, Maximal, Boundary, OneUnit, Choice, Fits, Longest, FirstWide}
 use Rattle.rules.specs.Meanings.{GapAt, WithinLimits, FirstStageFull}
 use Rattle.rules.proofs.Facts.{some-none}

@@ -1,16 +1,15 @@
 -- Laws of `cut`: it gives the maximal runs of tied neighbours, and no others. Assumes nothing.
 use mathlib.Core.Path.{_≡_, refl, ap, sym, _∙_}
-use Prim.Native.Nat.{ℕ}
-use mathlib.Core.Bool.{Bool, true, false, not, cond, _&&_}
+use mathlib.Core.Bool.{Bool, true, false}
 use mathlib.Core.List.{List, [], _∷_, _++_, append-assoc, append-nil}
-use mathlib.Core.Logic.{_⊎_, inl, inr, _↔_}
+use mathlib.Core.Logic.{inl, inr, _↔_}
 use lib.Dec.{eqb}
 use borrow.Author.Tests.{eqb-true, eqb-false}
 use Rattle.rules.specs.Basics.{Run, alone, whole, then, joined, tie, cut}
 use Rattle.rules.specs.Records.{Rec}
-use Rattle.rules.specs.Groups.{TextUnit, joins, sameGroup, units}
+use Rattle.rules.specs.Groups.{TextUnit, sameGroup, units}
 use Rattle.rules.proofs.Facts.{tested, true-false, nil-cons}
-use Rattle.rules.specs.Meanings.{All, all-none, all-more, lastOf, lastIn, Tied, tied-one, tied-more, TiedRun}
+use Rattle.rules.specs.Meanings.{All, all-none, all-more, lastOf, Tied, tied-one, tied-more, TiedRun}
 use Rattle.rules.specs.Meanings.{Apart, apart-none, apart-one, apart-more, Maximal, Boundary, OneUnit, single}
 use Rattle.rules.specs.Meanings.{grouped}
 

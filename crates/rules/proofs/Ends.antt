@@ -1,22 +1,21 @@
 -- Where a line ends, by its kind, and what its gaps come to. Assumes nothing.
-use mathlib.Core.Path.{_≡_, refl, ap, sym, _∙_}
-use Prim.Native.Nat.{ℕ, zero, suc, _+_, _*_, _-_, _/_, _≤_, _<_, min}
+use mathlib.Core.Path.{_≡_, refl, sym}
+use Prim.Native.Nat.{ℕ, zero, suc, _+_, _*_, _-_, _/_, _≤_, _<_}
 use native.Mathlib.Omega.{arith}
-use native.Mathlib.Nat.{mul-div-left, div-zero, zero-mul, zero-div, mul-zero, add-zero, sub-self}
-use mathlib.Core.Bool.{Bool, true, false, cond, _&&_}
-use mathlib.Core.List.{List, [], _∷_}
-use mathlib.Core.Logic.{_⊎_, inl, inr}
+use native.Mathlib.Nat.{mul-div-left, div-zero, zero-mul, zero-div, add-zero, sub-self}
+use mathlib.Core.Bool.{Bool, true, false, cond}
+use mathlib.Core.List.{List}
+use mathlib.Core.Logic.{inl, inr}
 use lib.Dec.{ltb, eqb}
 use borrow.Author.Tests.{ltb-true, ltb-false, eqb-true, eqb-false}
-use Rattle.rules.specs.Basics.{Run, whole}
+use Rattle.rules.specs.Basics.{Run}
 use Rattle.rules.specs.Groups.{TextUnit}
-use Rattle.rules.specs.Breaks.{Gap, gap, least, width}
-use Rattle.rules.specs.Adjustment.{Amounts, amounts, amountsOf, share, adjusted, plus, nothing, totals, natural}
-use Rattle.rules.specs.Adjustment.{kindOf, Line, lineOf}
+use Rattle.rules.specs.Breaks.{Gap, width}
+use Rattle.rules.specs.Adjustment.{Amounts, amounts, amountsOf, share, nothing, totals, natural, kindOf, lineOf}
 use Rattle.rules.specs.Meanings.{GapAt, gap-here, gap-later, WithinLimits, FirstStageFull}
 use Rattle.rules.proofs.Facts.{tested}
 use Rattle.rules.proofs.Widths.{natural-smallest}
-use Rattle.rules.proofs.Shares.{share-up, share-cap, shared-out, full-share, none-yet, ending-sum}
+use Rattle.rules.proofs.Shares.{share-cap, shared-out, full-share, none-yet, ending-sum}
 
 -- how far a line is too narrow for its measure: a final line is taken as it is
 abbrev narrow : ℕ → ℕ → Bool → Run TextUnit → ℕ

@@ -1,11 +1,11 @@
 -- The rows of a group: each item of the shorter row stays within the longer row. Assumes nothing.
-use mathlib.Core.Path.{_≡_, refl, ap, sym, _∙_}
-use Prim.Native.Nat.{ℕ, zero, suc, _+_, _*_, _-_, _/_, _≤_, _<_, max}
+use mathlib.Core.Path.{_≡_, ap, _∙_}
+use Prim.Native.Nat.{ℕ, suc, _+_, _*_, _-_, _/_, _≤_, _<_}
 use native.Mathlib.Omega.{arith}
 use native.Mathlib.Nat.{add-zero, zero-add, add-suc, suc-add, add-assoc, suc-mul, mul-le-mul-left, mul-le-mul-right}
 use mathlib.Core.List.{List, [], _∷_, _++_}
 use lib.ListN.{length, getD, length-append}
-use Rattle.rules.specs.Basics.{Run, whole}
+use Rattle.rules.specs.Basics.{whole}
 use Rattle.rules.specs.Records.{Rec}
 use Rattle.rules.specs.Groups.{TextUnit, count, advances, baseTotal, rubyTotal, groupAdvance, advance, shift}
 use Rattle.rules.specs.Groups.{baseOffset, offsets, baseOffsets, rubyOffset}

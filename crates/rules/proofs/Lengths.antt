@@ -1,6 +1,6 @@
 -- How many words a paragraph's places and lines are. Assumes nothing.
-use mathlib.Core.Path.{_≡_, refl, sym, ap, _∙_}
-use mathlib.Core.List.{List, [], _∷_, _++_, map}
+use mathlib.Core.Path.{_≡_, refl, ap, _∙_}
+use mathlib.Core.List.{List, [], _∷_, map}
 use mathlib.Core.Bool.{Bool}
 use Prim.Native.Nat.{ℕ, suc, _+_, _*_, _≤_}
 use native.Mathlib.Omega.{arith}
@@ -11,7 +11,6 @@ use Rattle.rules.specs.Groups.{TextUnit, units, count, counts, advance, 
 use Rattle.rules.specs.Breaks.{Gap, gap, runs, breaking}
 use Rattle.rules.specs.Adjustment.{Amounts, Line, plus, adjusted, placed, lineOf, linesOf, compose, isEmpty}
 use Rattle.rules.specs.Sheet.{placesOf, placeWords, lineWords}
-use Rattle.rules.specs.Meanings.{Choice}
 use Rattle.rules.proofs.Cuts.{cut-joined}
 use Rattle.rules.proofs.Breaking.{counts-append, breaking-choice}
 

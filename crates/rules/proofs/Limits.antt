@@ -1,23 +1,21 @@
 -- Bounds: what answers 8 and 9 leave of records, units and gaps. Assumes nothing.
-use mathlib.Core.Path.{_≡_, refl, ap, sym, _∙_}
-use Prim.Native.Nat.{ℕ, zero, suc, _+_, _*_, _-_, _/_, _%_, _≤_, _<_, max}
+use mathlib.Core.Path.{_≡_, refl, sym}
+use Prim.Native.Nat.{ℕ, zero, suc, _+_, _*_, _/_, _%_, _≤_, _<_}
 use native.Mathlib.Omega.{arith}
 use native.Mathlib.Nat.{le-trans, mul-le-mul-left, mul-le-mul-right}
-use mathlib.Core.Bool.{Bool, true, false, cond, not, _&&_, _||_}
+use mathlib.Core.Bool.{Bool, true, false, cond, not, _&&_}
 use mathlib.Core.List.{List, [], _∷_}
-use mathlib.Core.Logic.{_⊎_, inl, inr}
-use mathlib.Core.Option.{Option, none, some}
+use mathlib.Core.Logic.{inl, inr}
+use mathlib.Core.Option.{none, some}
 use lib.Dec.{leb, ltb, eqb}
-use lib.ListN.{length, drop}
+use lib.ListN.{drop}
 use borrow.Author.Tests.{leb-true, ltb-true, eqb-true}
-use Rattle.rules.specs.Basics.{Run, whole, alone, then, tie, cut, within, isIn}
+use Rattle.rules.specs.Basics.{cut, within, isIn}
 use Rattle.rules.specs.Records.{Rec, codeOk, classOk, sizeOk, AdvanceKind, half-size, to-size, to-twice}
 use Rattle.rules.specs.Records.{full-size, advanceKind, advanceFits, advanceOk, groupOk, recOk, badRecord}
-use Rattle.rules.specs.Groups.{TextUnit, sameGroup, badGroup, groupFault, units, count, rubyTotal, groupAdvance}
-use Rattle.rules.specs.Groups.{Side}
+use Rattle.rules.specs.Groups.{TextUnit, sameGroup, badGroup, groupFault, units, count, groupAdvance, Side}
 use Rattle.rules.specs.Space.{Fraction, no-part, eighth, quarter, half, part, Space, measured}
-use Rattle.rules.specs.Breaks.{Flexibility, early, late, rigid, instead, brought, Gap, gapBy, gapOf, weight}
-use Rattle.rules.specs.Breaks.{forbidden, least}
+use Rattle.rules.specs.Breaks.{Flexibility, early, late, rigid, brought, Gap, gapBy, gapOf, weight, forbidden}
 use Rattle.rules.proofs.Cuts.{cut-first}
 use Rattle.rules.proofs.Facts.{tested, true-false, nil-cons, some-none}
 

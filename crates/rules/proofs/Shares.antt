@@ -1,6 +1,6 @@
 -- Shares by cumulative floors: a share is at most its capacity, and the shares of a line add up. Assumes nothing.
-use mathlib.Core.Path.{_≡_, refl, ap, sym, _∙_}
-use Prim.Native.Nat.{ℕ, zero, suc, _+_, _*_, _-_, _/_, _≤_, _<_}
+use mathlib.Core.Path.{_≡_, refl}
+use Prim.Native.Nat.{ℕ, zero, suc, _+_, _*_, _/_, _≤_, _<_}
 use native.Mathlib.Omega.{arith}
 use native.Mathlib.Nat.{le-refl, le-trans, div-zero, zero-div, div-mul-le-self, le-div-iff-mul-le, add-mul-div-right}
 use native.Mathlib.Nat.{mul-div-left, mul-le-mul-left, mul-add, mul-comm, mul-zero}

@@ -1,6 +1,6 @@
 -- Whether a break is forbidden, where the class on the right is asked first. Assumes nothing.
-use mathlib.Core.Path.{_≡_, refl}
-use Prim.Native.Nat.{ℕ, _≤_, _<_}
+use mathlib.Core.Path.{_≡_}
+use Prim.Native.Nat.{ℕ}
 use native.Mathlib.Omega.{arith}
 use mathlib.Core.Bool.{true, false, _&&_, _||_, and-false, or-false, and-eq-true-iff}
 use mathlib.Core.List.{[], _∷_}
@@ -10,7 +10,7 @@ use borrow.Author.Tests.{leb-true, leb-false, le-leb, lt-leb, eq-eqb, ne-eqb}
 use Rattle.rules.specs.Basics.{isIn, within}
 use Rattle.rules.specs.Groups.{Side}
 use Rattle.rules.specs.Breaks.{forbidden}
-use Rattle.rules.proofs.Facts.{tested, ordered}
+use Rattle.rules.proofs.Facts.{ordered}
 
 -- 2 to 11 without 8 are 2 to 7, 9, 10 and 11
 inside : (n : ℕ) → within 2 11 n ≡ true → (n ≡ 8 → ⊥) → within 2 7 n || isIn n (9 ∷ 10 ∷ 11 ∷ []) ≡ true

@@ -1,15 +1,13 @@
 -- The lines are determined: only one choice of permitted breaks has lines that all fit and are each the longest.
 -- Assumes nothing.
-use mathlib.Core.Path.{_≡_, refl, ap, sym, _∙_}
+use mathlib.Core.Path.{_≡_, refl, sym}
 use Prim.Native.Nat.{ℕ, _+_, _≤_, _<_}
 use native.Mathlib.Omega.{arith}
-use mathlib.Core.Bool.{Bool, true, false}
 use mathlib.Core.List.{List, [], _∷_, _++_}
 use Rattle.rules.specs.Basics.{Run, whole, then, joined}
 use Rattle.rules.specs.Groups.{TextUnit}
 use Rattle.rules.specs.Breaks.{bound, width}
-use Rattle.rules.specs.Meanings.{lastOf, lastIn, Apart, apart-none, apart-one, apart-more, Choice, Fits}
-use Rattle.rules.specs.Meanings.{fits-none, fits-more, EndsWell, at-end, at-break, Longest, longest-none}
+use Rattle.rules.specs.Meanings.{lastIn, Apart, apart-more, Fits, fits-more, EndsWell, at-end, at-break, Longest}
 use Rattle.rules.specs.Meanings.{longest-more}
 use Rattle.rules.proofs.Facts.{nil-cons, cons-path}
 use Rattle.rules.proofs.Cuts.{last-append, apart-tail}

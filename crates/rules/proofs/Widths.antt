@@ -1,14 +1,12 @@
 -- Laws of the smallest width. Assumes nothing.
-use mathlib.Core.Path.{_≡_, refl, ap, sym, _∙_}
-use Prim.Native.Nat.{ℕ, zero, suc, _+_, _-_, _/_, _≤_, _<_}
+use mathlib.Core.Path.{_≡_, refl}
+use Prim.Native.Nat.{ℕ, _+_, _≤_}
 use native.Mathlib.Omega.{arith}
-use mathlib.Core.List.{List, [], _∷_, _++_, append-assoc}
-use Rattle.rules.specs.Basics.{Run, whole, then}
-use Rattle.rules.specs.Groups.{TextUnit, advance}
-use Rattle.rules.specs.Space.{Fraction, no-part, eighth, quarter, half, part, Space, measured}
-use Rattle.rules.specs.Breaks.{Flexibility, early, late, rigid, instead, brought, Gap, gapBy, gapOf, gap, least}
-use Rattle.rules.specs.Breaks.{smallest, width}
-use Rattle.rules.specs.Adjustment.{totals, unitAdvances, natural}
+use mathlib.Core.List.{List, [], _∷_, _++_}
+use Rattle.rules.specs.Groups.{TextUnit}
+use Rattle.rules.specs.Space.{Space}
+use Rattle.rules.specs.Breaks.{Flexibility, early, late, rigid, gapBy, gapOf, gap, least, smallest}
+use Rattle.rules.specs.Adjustment.{totals, unitAdvances}
 use Rattle.rules.specs.Meanings.{lastOf}
 
 -- a line with more units after it is no narrower

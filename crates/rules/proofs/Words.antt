@@ -1,12 +1,12 @@
 -- Records and their words: each gives the other back, and parts of one are parts of the other. Assumes nothing.
-use mathlib.Core.Path.{_≡_, refl, ap, sym, _∙_}
+use mathlib.Core.Path.{_≡_, refl, ap, _∙_}
 use Prim.Native.Nat.{ℕ, zero, suc, _+_, _*_, _-_, _≤_, _<_}
 use native.Mathlib.Omega.{arith}
 use native.Mathlib.Nat.{add-zero, zero-add, suc-add}
-use mathlib.Core.List.{List, [], _∷_, _++_}
+use mathlib.Core.List.{List, _∷_, _++_}
 use lib.ListN.{length, getD, take, drop, List·getD-append}
 use lib.Seq.{getD-take, getD-drop, drop-cons, getD-append-add}
-use Rattle.rules.specs.Records.{Rec, recAt, records, recordWords}
+use Rattle.rules.specs.Records.{recAt, records, recordWords}
 use Rattle.rules.proofs.Facts.{cons-path}
 
 -- records hang on their own words alone

@@ -8,11 +8,11 @@
 --
 -- A code point matters only beside class 8, and a group counts as class 19: the first record's serves for a group.
 -- Assumes nothing.
-use Prim.Native.Nat.{ℕ, zero, suc, _+_, _*_, _-_, _/_, max}
+use Prim.Native.Nat.{ℕ, suc, _+_, _*_, _-_, _/_, max}
 use mathlib.Core.Bool.{Bool, true, false, cond, not, _&&_}
 use mathlib.Core.List.{List, [], _∷_}
 use mathlib.Core.Option.{Option, none, some}
-use lib.Dec.{leb, ltb, eqb}
+use lib.Dec.{ltb, eqb}
 use lib.ListN.{length}
 use Rattle.rules.specs.Basics.{within, Run, whole, cut}
 use Rattle.rules.specs.Records.{Rec, sizeOk}

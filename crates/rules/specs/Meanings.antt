@@ -11,12 +11,10 @@
 --
 -- Assumes nothing.
 use mathlib.Core.Path.{_≡_}
-use Prim.Native.Nat.{ℕ, zero, suc, _+_, _*_, _-_, _≤_, _<_}
+use Prim.Native.Nat.{ℕ, _+_, _≤_, _<_}
 use mathlib.Core.Bool.{Bool, true, false}
 use mathlib.Core.List.{List, [], _∷_, _++_}
-use mathlib.Core.Logic.{_⊎_}
 use Rattle.rules.specs.Basics.{Run, whole, then, joined}
-use Rattle.rules.specs.Records.{Rec}
 use Rattle.rules.specs.Groups.{TextUnit, counts}
 use Rattle.rules.specs.Breaks.{bound, width, Gap, gap, least}
 use Rattle.rules.specs.Adjustment.{plus, nothing, Amounts, share, adjusted}

@@ -1,6 +1,6 @@
 // "Records and groups": the rows of a group.
 ghost use mathlib.Core.Path.{_≡_};
-ghost use Prim.Native.Nat.{_≤_, _<_};
+ghost use Prim.Native.Nat.{_≤_};
 ghost use Rattle.rules.specs.Groups.{rubyTotal, groupAdvance, shift as shiftOf, baseOffset, rubyOk, rubyPlace};
 ghost use Rattle.rules.specs.Values.{ShiftBounds, OffsetBounds};
 use crate::basics::between;

@@ -1,16 +1,16 @@
 -- The record list of an edit: whole records, zeros past them, and the old records with the named stretch replaced.
 -- Assumes nothing.
-use mathlib.Core.Path.{_≡_, refl, sym, ap, _∙_}
+use mathlib.Core.Path.{_≡_, ap, _∙_}
 use mathlib.Core.List.{List, _++_}
 use mathlib.Core.Bool.{true}
-use Prim.Native.Nat.{ℕ, _+_, _-_, _*_, _/_, _%_, _≤_, _<_}
+use Prim.Native.Nat.{ℕ, _+_, _-_, _*_, _/_, _%_, _≤_}
 use native.Mathlib.Omega.{arith}
 use lib.ListN.{length, take, drop, length-append, length-drop}
 use lib.Seq.{take-at, drop-at, length-take-le}
 use Rattle.rules.specs.Basics.{zeros}
 use Rattle.rules.specs.Records.{records}
-use Rattle.rules.specs.Sheet.{countOf, recordsOf, measureOf, indentOf, limitsOk}
-use Rattle.rules.specs.Refusals.{splice, edited}
+use Rattle.rules.specs.Sheet.{countOf, measureOf, indentOf, limitsOk}
+use Rattle.rules.specs.Refusals.{edited}
 use Rattle.compose.specs.Paragraph.{size, paragraph}
 use Rattle.slot.specs.Slot.{spliced, Replaceable}
 use Rattle.slot.proofs.Spliced.{spliced-records, length-spliced}

@@ -1,11 +1,10 @@
 -- Pieces of words written one after another. Assumes nothing.
-use mathlib.Core.Path.{_≡_, refl, sym, ap, _∙_}
+use mathlib.Core.Path.{_≡_, refl, ap, _∙_}
 use mathlib.Core.List.{List, [], _∷_, _++_, append-assoc, append-nil}
-use Prim.Native.Nat.{ℕ, _+_, _-_, _*_, _≤_, _<_}
+use Prim.Native.Nat.{ℕ, _+_, _-_, _≤_}
 use native.Mathlib.Omega.{arith}
 use lib.ListN.{length, take, drop, set, getD, length-append, length-drop, drop-of-length-le}
 use lib.Seq.{paste, take-append-seam, take-length, drop-append-add, drop-cons, drop-drop, length-take-le, take-all}
-use lib.Seq.{drop-at}
 use Rattle.slot.specs.Slot.{headOf, spliced}
 
 -- a paste right after p

@@ -1,27 +1,26 @@
 -- A slot with other records: its words. Assumes nothing.
-use mathlib.Core.Path.{_≡_, refl, sym, ap, _∙_}
-use mathlib.Core.List.{List, [], _∷_, _++_, append-assoc}
-use mathlib.Core.Bool.{Bool, true, false, cond}
+use mathlib.Core.Path.{_≡_, sym, ap, _∙_}
+use mathlib.Core.List.{List, _++_, append-assoc}
+use mathlib.Core.Bool.{true}
 use mathlib.Core.Option.{Option, none, some}
-use Prim.Native.Nat.{ℕ, zero, suc, _+_, _-_, _*_, _/_, _%_, _≤_, _<_}
+use Prim.Native.Nat.{ℕ, _-_, _*_, _/_, _≤_}
 use native.Mathlib.Omega.{arith}
 use lib.Dec.{eqb}
 use native.Mathlib.Nat.{zero-add}
-use lib.ListN.{length, take, drop, take-append-drop}
+use lib.ListN.{length, take, take-append-drop}
 use lib.Seq.{paste, take-all, take-length, length-take-le}
 use borrow.Author.Tests.{ne-eqb}
 use Rattle.rules.specs.Basics.{zeros, padded}
 use Rattle.rules.specs.Records.{Rec, recordWords, badRecord}
 use Rattle.rules.specs.Groups.{units, groupFault}
 use Rattle.rules.specs.Breaks.{noBreaking}
-use Rattle.rules.specs.Adjustment.{Line, compose}
-use Rattle.rules.specs.Sheet.{head, slotOf, slotWords, placeWords, lineWords, clinicOf, measureOf, indentOf}
-use Rattle.rules.specs.Refusals.{Answer, Outcome, says, orElse, judged}
+use Rattle.rules.specs.Adjustment.{compose}
+use Rattle.rules.specs.Sheet.{head, slotWords, placeWords, lineWords, clinicOf, measureOf, indentOf}
+use Rattle.rules.specs.Refusals.{Outcome, says, orElse, judged}
 use Rattle.rules.proofs.Zeros.{drop-zeros}
 use Rattle.rules.proofs.Words.{words-records, length-records}
 use Rattle.rules.proofs.Lengths.{composed-places, composed-lines, composed-few}
 use Rattle.compose.specs.Paragraph.{size, paragraph}
-use Rattle.compose.specs.Lines.{composed, Written}
 use Rattle.compose.specs.Composed.{Composed}
 use Rattle.slot.specs.Slot.{headOf, replaced, Replaceable}
 

@@ -1,14 +1,13 @@
 -- The spliced record list: its records are the old ones with the named stretch replaced. Assumes nothing.
-use mathlib.Core.Path.{_≡_, refl, sym, ap, _∙_}
-use mathlib.Core.List.{List, [], _∷_, _++_}
-use Prim.Native.Nat.{ℕ, _+_, _-_, _*_, _/_, _%_, _≤_, _<_}
+use mathlib.Core.Path.{_≡_, sym, ap, _∙_}
+use mathlib.Core.List.{List, _++_}
+use Prim.Native.Nat.{ℕ, _+_, _-_, _*_, _≤_}
 use native.Mathlib.Omega.{arith}
 use native.Mathlib.Nat.{zero-add}
-use lib.ListN.{length, take, drop, getD, length-append, length-take, length-drop}
+use lib.ListN.{length, take, drop, length-append, length-drop}
 use lib.Seq.{getD-take, length-take-le}
-use Rattle.rules.specs.Records.{Rec, records}
-use Rattle.rules.specs.Sheet.{countOf, recordsOf}
-use Rattle.rules.specs.Refusals.{splice, edited}
+use Rattle.rules.specs.Records.{records}
+use Rattle.rules.specs.Refusals.{splice}
 use Rattle.rules.proofs.Words.{records-alike, records-take, records-drop, take-records, drop-records, records-append}
 use Rattle.slot.specs.Slot.{spliced}
 

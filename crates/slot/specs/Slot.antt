@@ -6,15 +6,15 @@
 --
 -- Assumes nothing.
 use mathlib.Core.Path.{_≡_}
-use Prim.Native.Nat.{ℕ, zero, suc, _+_, _-_, _*_, _/_, _%_, _≤_}
-use mathlib.Core.List.{List, [], _∷_, _++_}
-use mathlib.Core.Bool.{Bool, true, false, cond}
+use Prim.Native.Nat.{ℕ, _+_, _-_, _%_, _≤_}
+use mathlib.Core.List.{List, _++_}
+use mathlib.Core.Bool.{true, cond}
 use lib.Dec.{eqb}
 use lib.ListN.{length, take, drop}
 use Rattle.rules.specs.Basics.{zeros}
 use Rattle.rules.specs.Records.{Rec}
 use Rattle.rules.specs.Sheet.{head, slotWords, clinicOf, measureOf, indentOf, limitsOk}
-use Rattle.rules.specs.Refusals.{Answer, Outcome, judged}
+use Rattle.rules.specs.Refusals.{Outcome, judged}
 
 abbrev pub headOf : List ℕ → ℕ → ℕ → List ℕ
 headOf s n lines = head (clinicOf s) (measureOf s) (indentOf s) n lines

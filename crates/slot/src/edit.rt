@@ -1,11 +1,9 @@
 // An edit of one slot: answers 4 to 10, and every word of the slot written where it is accepted.
 ghost use mathlib.Core.Path.{_≡_};
 ghost use mathlib.Core.Bool.{cond};
-ghost use Prim.Native.Nat.{_+_, _-_, _*_, _≤_};
-ghost use lib.ListN.{length, take, drop};
-ghost use Rattle.rules.specs.Basics.{zeros};
+ghost use lib.ListN.{length, take};
 ghost use Rattle.rules.specs.Refusals.{says, sound, editSlot};
-ghost use Rattle.rules.specs.Sheet.{limitsOk, measureOf, indentOf};
+ghost use Rattle.rules.specs.Sheet.{limitsOk};
 ghost use Rattle.compose.specs.Paragraph.{paragraph};
 ghost use Rattle.slot.specs.Slot.{replaced, Replaceable};
 use crate::words::splice;

@@ -1,9 +1,9 @@
 -- `compose::breaking::all_narrow` meets its contract: the rows passed fit the measure. Assumes nothing.
-use mathlib.Core.Path.{_≡_, sym}
+use mathlib.Core.Path.{sym}
 use Prim.Native.Nat.{ℕ, _*_, _-_, _≤_, _<_}
 use native.Mathlib.Omega.{arith}
 use lib.ListN.{getD}
-use borrow.Author.Count.{below-none, below-more}
+use borrow.Author.Count.{below-more}
 use borrow.Author.Needs.{needs}
 use Rattle.rules.proofs.Facts.{true-false}
 use Rattle.compose.proofs.breaking.all_narrow.Statement.{statement}

@@ -3,9 +3,6 @@ use Rattle.compose.proofs.Answers.{judged-number}
 use borrow.Author.Needs.{needs}
 use Rattle.compose.proofs.paragraph.check.Statement.{statement}
 use Rattle.compose.proofs.paragraph.check.Tie as tie
-use Rattle.compose.proofs.paragraph.check.Reads as reads
-use Rattle.compose.proofs.paragraph.check.Lts as lts
-use Rattle.compose.proofs.paragraph.judge.Reads as judge-reads
 
 -- src/paragraph.rt:77:9
 -- src/paragraph.rt:70:1

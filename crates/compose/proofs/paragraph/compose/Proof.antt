@@ -6,12 +6,6 @@ use Rattle.compose.proofs.Answers.{lines-within, composing, refusing}
 use borrow.Author.Needs.{needs}
 use Rattle.compose.proofs.paragraph.compose.Statement.{statement}
 use Rattle.compose.proofs.paragraph.compose.Tie as tie
-use Rattle.compose.proofs.paragraph.compose.Reads as reads
-use Rattle.compose.proofs.paragraph.compose.Lts as lts
-use Rattle.compose.proofs.breaking.break_lines.Reads as break-lines-reads
-use Rattle.compose.proofs.paragraph.judge.Reads as judge-reads
-use Rattle.compose.proofs.paragraph.says.Reads as says-reads
-use Rattle.compose.proofs.places.place_lines.Reads as place-lines-reads
 
 -- src/paragraph.rt:90:9
 -- src/paragraph.rt:92:9

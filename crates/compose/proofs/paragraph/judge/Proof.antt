@@ -1,18 +1,10 @@
 use denote.Ref.{now}
 use native.Mathlib.Omega.{arith}
 use Rattle.compose.specs.Paragraph.{size, Checked}
-use Rattle.compose.proofs.Answers.{named, no-8, no-9, no-10, judged-8, judged-9, judged-10, judged-0, refusal}
-use Rattle.compose.proofs.Answers.{acceptance}
+use Rattle.compose.proofs.Answers.{named, no-8, no-9, no-10, judged-8, judged-9, judged-10, refusal, acceptance}
 use borrow.Author.Needs.{needs}
 use Rattle.compose.proofs.paragraph.judge.Statement.{statement}
 use Rattle.compose.proofs.paragraph.judge.Tie as tie
-use Rattle.compose.proofs.paragraph.judge.Reads as reads
-use Rattle.compose.proofs.paragraph.judge.Lts as lts
-use Rattle.compose.proofs.breaking.first_wide_run.Reads as first-wide-run-reads
-use Rattle.compose.proofs.checks.first_bad_record.Reads as first-bad-record-reads
-use Rattle.compose.proofs.checks.first_group_fault.Reads as first-group-fault-reads
-use Rattle.compose.proofs.paragraph.fill_tables.Reads as fill-tables-reads
-use Rattle.compose.proofs.paragraph.says.Reads as says-reads
 
 first-bad-record-requires : tie.Need-first-bad-record-requires
 first-bad-record-requires c κs = search needs

@@ -2,7 +2,6 @@
 use mathlib.Core.Path.{sym, _∙_}
 use native.Mathlib.Omega.{arith}
 use borrow.Author.Needs.{needs}
-use denote.Ref.{now}
 use Rattle.rules.specs.Values.{gapFrom}
 use Rattle.rules.proofs.Limits.{GapBounds}
 use Rattle.compose.proofs.RunScan.{unit, row-last, gap-found, gap-words, RunWords, run-words, row-apart}

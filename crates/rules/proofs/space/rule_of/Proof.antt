@@ -1,7 +1,7 @@
 -- `rules::space::rule_of` meets its contract. Assumes nothing.
 use mathlib.Core.Path.{sym, _∙_}
 use borrow.Author.Needs.{needs}
-use borrow.Author.Tests.{eq-eqb, ne-eqb}
+use borrow.Author.Tests.{ne-eqb}
 use Rattle.rules.specs.Space.{ruleOf}
 use Rattle.rules.proofs.space.rule_of.Statement.{statement}
 use Rattle.rules.proofs.space.rule_of.Tie as tie
