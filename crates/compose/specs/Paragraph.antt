@@ -6,8 +6,8 @@
 --   runAt        the run, between neighbouring permitted breaks, that starts with record i; runEnd: the one after it
 --   checked      a paragraph of at most 256 records, to which answers 8 and 9 do not apply
 --
--- A unit or run by a record inside a group is what the rules make of the records from there on. No call looks at it.
--- Assumes nothing.
+-- A unit or run by a record inside a group is what the rules make of the records from there on. No answer hangs on it:
+-- `all_narrow` reads every row, but only to pass over the search, which looks at the runs alone. Assumes nothing.
 use mathlib.Core.Path.{_≡_}
 use Prim.Native.Nat.{ℕ, _+_, _-_, _/_, _≤_}
 use mathlib.Core.List.{List, [], _∷_}

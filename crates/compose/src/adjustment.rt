@@ -169,7 +169,7 @@ pub(crate) fn line_kind(last: bool, e: Stages, c: Gap) -> u32
     }
 }
 
-// floor(e·s/c), and 0 where c is 0. The product is the one place that needs 64 bits.
+// floor(e·s/c), and 0 where c is 0. The product needs 64 bits.
 fn shared(e: u32, s: u32, c: u32) -> u32
     requires { ⌜ s ≤ c ⌝ }
     ensures { λ r. ⌜ r ≡ e * s / c ⌝ }

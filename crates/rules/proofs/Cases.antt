@@ -17,7 +17,7 @@ use Rattle.rules.specs.Sheet.{placeWords, lineWords, slotWords}
 use Rattle.rules.specs.Refusals.{judged}
 use Rattle.rules.specs.Computed.{computed}
 
--- the places of ruby characters k, k − 1, .. from the last of n on
+-- the places of the last k of n ruby characters, in order
 rubyFrom : ℕ → ℕ → ℕ → ℕ → List ℕ
 rubyFrom base s n zero = []
 rubyFrom base s n (suc k) = rubyPlace base n s (n - suc k) .1 ∷ rubyFrom base s n k

@@ -1,4 +1,5 @@
--- Records and their words: each gives the other back, and parts of one are parts of the other. Assumes nothing.
+-- Records and their words: the words of the records of some words are those words, and parts of one are parts of the
+-- other. Assumes nothing.
 use mathlib.Core.Path.{_≡_, refl, ap, _∙_}
 use Prim.Native.Nat.{ℕ, zero, suc, _+_, _*_, _-_, _≤_, _<_}
 use native.Mathlib.Omega.{arith}

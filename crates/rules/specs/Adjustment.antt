@@ -2,8 +2,8 @@
 --
 --   natural width    a line's advances and spaces, as they are
 --   amount           E: what a stage takes from a line's gaps, or adds to them
---   total            C: what the capacities of a stage add up to over a line; S: what they add up to before a gap
---   kind             1 flush, 行末揃え; 2 short, a line that cannot be stretched; 3 final, 段落の最終行
+--   total            C: what the capacities of a stage add up to over a line; S_i: up to gap i, its own included
+--   kind             1 flush, 行頭行末そろえ; 2 short, a line that cannot be stretched; 3 final, 段落の最終行
 --
 -- Assumes nothing.
 use Prim.Native.Nat.{ℕ, _+_, _*_, _-_, _/_, min}
@@ -65,7 +65,8 @@ amountsOf m x final l =
     amounts (n - m) (cond final 0 (m - n)) (totals (l .first) (l .rest))
 
 -- "An amount E within a stage is shared by cumulative capacity (or weight) S over total C: gap i gets
--- floor(E·S_i/C) − floor(E·S_(i−1)/C). A stage with C=0 is skipped": a quotient by 0 is 0
+-- floor(E·S_i/C) − floor(E·S_(i−1)/C). A stage with C=0 is skipped": a quotient by 0 is 0.
+-- Here s is S_(i−1) and t is S_i
 abbrev pub share : ℕ → ℕ → ℕ → ℕ → ℕ
 share e c s t = e * t / c - e * s / c
 

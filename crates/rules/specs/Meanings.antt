@@ -4,8 +4,7 @@
 --   tied together        every two neighbours of a run pass a test
 --   kept apart           no two elements that meet between neighbouring runs pass it
 --   boundary             a place between the runs
--- choice               of permitted breaks: non-empty lines that join up to the paragraph, each boundary a permitted
--- break
+--   choice               of permitted breaks: non-empty lines that join up to the paragraph and meet at such breaks
 --   fits                 every line's smallest width is within the measure, the first line's with the indent
 --   longest              no longer line that ends at a permitted break or the paragraph's end fits
 --
@@ -89,11 +88,12 @@ pub data Longest (m : ℕ) : ℕ → List (Run TextUnit) → Type 0 where
       m < x + width (then l t)) →
       Longest m 0 ls → Longest m x (l ∷ ls)
 
--- where the first of the runs ls that does not fit m stands, and the record i it starts with
+-- where a run after others stands: a first run at x, any other at 0
 abbrev pub startOf : {A : Type 0} → ℕ → List A → ℕ
 startOf x [] = x
 startOf x (a ∷ bs) = 0
 
+-- the first of the runs ls that does not fit m, where the first run stands at x; it starts with record i
 pub record FirstWide (m x : ℕ) (ls : List (Run TextUnit)) (i : ℕ) : Type 0 where
   pub before : List (Run TextUnit)
   pub run : Run TextUnit

@@ -4,7 +4,7 @@
 --   answer       a number and a place; success is 0 and the line count (set-up: 0 and P)
 --   outcome      an answer, and the words afterwards; "Every refusal leaves the whole sheet unchanged."
 --   judged       answers 8, 9 and 10 of records in a measure
---   sound        a slot of which answer 4 does not apply
+--   sound        a slot to which answer 4 does not apply
 --   splice       the named stretch of records replaced
 --
 -- Assumes nothing.
@@ -32,7 +32,7 @@ says n p = record { number = n; place = p }
 abbrev pub Outcome : Type 0
 Outcome = Answer × List ℕ
 
--- 8, 9 and 10 name a place where they apply
+-- 8, 9, 10 and 11 name a place where they apply
 abbrev pub orElse : ℕ → Option ℕ → Answer → Answer
 orElse n none a = a
 orElse n (some i) a = says n i
@@ -79,7 +79,7 @@ editSlot s place deleted inserted =
     let a = firstOf (slotRows s place deleted inserted) (judged m x rs) in
     (a, cond (eqb (a .number) 0) (slotWords (clinicOf s) m x rs) s)
 
--- the rows 1 to 3, of which each call on a slot begins; 3 looks at no word of the slot but its clinic
+-- the rows 1 to 3, with which each call on a slot begins; 3 looks at no word of the slot but its clinic
 unfoldable pub callRows : List ℕ → ℕ → ℕ → List (Bool × Answer)
 callRows ws caller k =
     (not (lengthOk (length ws)), says 1 0)

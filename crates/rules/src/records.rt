@@ -101,7 +101,7 @@ pub fn class_row(class: u32) -> ClassRow
     let entry = if class < 28 {
         wide(CLASSES[class as usize])
     } else {
-        75
+        wide(NO_CLASS)
     };
     ClassRow {
         row: entry / 4,

@@ -46,7 +46,8 @@ fn is_sound(words: &[u32]) -> bool
     check(&words[8..end], m, x)
 }
 
-// 4 where answer 4 applies to a slot, or 0.
+// 4 where answer 4 applies to a slot, or 0. A function of its own, so that a foreign or damaged slot is turned away
+// before the tables' frame is made: docs/DECISIONS.md, 17.
 fn stored_answer(words: &[u32]) -> u32
     requires { ⌜ length (now words) ≡ 2824 ⌝ }
     ensures { λ n. ⌜ n ≡ cond (sound (now (words .entry))) 0 4 ⌝ }

@@ -1,5 +1,5 @@
--- `compose::break_lines` meets its contract: the lines written, and those of the runs left, are the paragraph's.
--- Assumes nothing.
+-- `compose::breaking::break_lines` meets its contract: the lines written, and those of the runs left, are the
+-- paragraph's. Assumes nothing.
 use Prim.Native.Nat.{_-_, _≤_}
 use native.Mathlib.Omega.{arith}
 use denote.Ref.{now}

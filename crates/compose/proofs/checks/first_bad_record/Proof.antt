@@ -1,4 +1,4 @@
--- `compose::first_bad_record` meets its contract: the records passed keep their rules. Assumes nothing.
+-- `compose::checks::first_bad_record` meets its contract: the records passed keep their rules. Assumes nothing.
 use mathlib.Core.Path.{_≡_, ap, sym, _∙_}
 use Prim.Native.Nat.{_-_}
 use denote.Ref.{now}

@@ -1,4 +1,5 @@
--- `compose::first_group_fault` meets its contract: the records passed keep the rules of groups. Assumes nothing.
+-- `compose::checks::first_group_fault` meets its contract: the records passed keep the rules of groups.
+-- Assumes nothing.
 use mathlib.Core.Path.{sym, _∙_}
 use mathlib.Core.Logic.{inl, inr}
 use Prim.Native.Nat.{_-_}

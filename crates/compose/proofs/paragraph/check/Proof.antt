@@ -1,11 +1,10 @@
+-- `compose::paragraph::check` meets its contract. Assumes nothing.
 use denote.Ref.{now}
 use Rattle.compose.proofs.Answers.{judged-number}
 use borrow.Author.Needs.{needs}
 use Rattle.compose.proofs.paragraph.check.Statement.{statement}
 use Rattle.compose.proofs.paragraph.check.Tie as tie
 
--- src/paragraph.rt:77:9
--- src/paragraph.rt:70:1
 returns : tie.Need-returns
 returns c =
     judged-number (now (c .before .before .before .before .before .before .args .ws)) _ _ _ _ _ _ _

@@ -1,3 +1,5 @@
+-- `compose::paragraph::compose` meets its contract: what is judged sound is broken into lines, and these are placed.
+-- Assumes nothing.
 use denote.Ref.{now}
 use native.Mathlib.Omega.{arith}
 use mathlib.Core.Path.{_≡_}
@@ -7,21 +9,17 @@ use borrow.Author.Needs.{needs}
 use Rattle.compose.proofs.paragraph.compose.Statement.{statement}
 use Rattle.compose.proofs.paragraph.compose.Tie as tie
 
--- src/paragraph.rt:90:9
--- src/paragraph.rt:92:9
 returns : tie.Need-returns
 returns c =
     refusing (now (c .before .before .before .before .before .before .before .args .ws)) _ _ _ _ _ _ _ _ _
     (c .if1 .taken) (c .before .before .judge .ensures)
 
--- src/paragraph.rt:95:9
 break-lines-requires : tie.Need-break-lines-requires
 break-lines-requires c κs =
     let s = c .before .before .before .before .before .before .before .before .before in
     let a = c .before .before .before .before .judge .ensures .accepted (c .before .before .if1 .left) in
     (a .checked, a .filled .runs, s .pre .indent, s .pre .measure)
 
--- src/paragraph.rt:96:5
 place-lines-requires : tie.Need-place-lines-requires
 place-lines-requires c κs =
     let s =
@@ -44,7 +42,6 @@ place-lines-requires c κs =
       line-room = omega (arith, b .count, lines-within ws (s .args .m) (s .args .x), s .pre .few, l);
     }
 
--- src/paragraph.rt:97:5
 says-requires : tie.Need-says-requires
 says-requires c κs =
     let s =
@@ -53,7 +50,6 @@ says-requires c κs =
     let b = c .before .before .before .before .before .before .break-lines .ensures in
     omega (arith, b .count, lines-within (now (s .args .ws)) (s .args .m) (s .args .x), s .pre .few)
 
--- src/paragraph.rt:83:1
 returns-2 : tie.Need-returns-2
 returns-2 c =
     let s =

@@ -1,3 +1,5 @@
+-- `compose::paragraph::judge` meets its contract: answer 8, 9 or 10 where one applies, and else the tables are filled.
+-- Assumes nothing.
 use denote.Ref.{now}
 use native.Mathlib.Omega.{arith}
 use Rattle.compose.specs.Paragraph.{size, Checked}

@@ -1,5 +1,5 @@
--- `compose::tables::least_of` meets its contract. The proof is written out so that a wrong least is refused here and not
--- at a caller. Assumes nothing.
+-- `compose::tables::least_of` meets its contract. The proof is written out so that a wrong least is refused here and
+-- not at a caller. Assumes nothing.
 use mathlib.Core.Path.{refl}
 use borrow.Author.Needs.{needs}
 use Rattle.compose.proofs.tables.least_of.Statement.{statement}

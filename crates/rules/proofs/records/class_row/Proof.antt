@@ -14,7 +14,8 @@ use Rattle.rules.proofs.records.class_row.Tie as tie
 entry-is : (c : tie.Joined1) → c .if1 .entry ≡ entryOf (c .before .args .class)
 unfolding rowOf classes advanceKind
 entry-is c =
-    ⊎-elim (λ w. w .2 ∙ w .1 .ensures ∙ entry-at _ (w .0 .taken)) (λ w. w .1 ∙ entry-past _ (w .0 .left))
+    ⊎-elim (λ w. w .2 ∙ w .1 .ensures ∙ entry-at _ (w .0 .taken))
+    (λ w. w .2 ∙ w .1 .ensures ∙ entry-past _ (w .0 .left))
     (c .if1 .came)
 
 returns : tie.Need-returns
@@ -26,4 +27,11 @@ returns c =
     }
 
 pub class-row-spec : {M : Type 1} → statement M
-class-row-spec = tie.close (tie.spec (λ c. search needs) (λ c κs. search needs) (λ c κs. search needs) returns)
+class-row-spec =
+    tie.close
+    (tie.spec
+    (λ c. search needs)
+    (λ c κs. search needs)
+    (λ c κs. search needs)
+    (λ c κs. search needs)
+    returns)

@@ -1,4 +1,4 @@
--- `slot::edit_slot` meets its contract: the rows of the table one after the other, then the new records. Assumes
+-- `slot::edit::edit_slot` meets its contract: the rows of the table one after the other, then the new records. Assumes
 -- nothing.
 use mathlib.Core.Path.{_≡_, ap, sym, _∙_}
 use mathlib.Core.Bool.{true}

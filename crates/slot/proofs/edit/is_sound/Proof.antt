@@ -1,4 +1,4 @@
--- `slot::is_sound` meets its contract. Assumes nothing.
+-- `slot::edit::is_sound` meets its contract. Assumes nothing.
 use mathlib.Core.Path.{ap, sym, _∙_}
 use lib.Dec.{eqb}
 use denote.Ref.{now}

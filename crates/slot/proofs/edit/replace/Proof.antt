@@ -1,4 +1,4 @@
--- `slot::replace` meets its contract. Assumes nothing.
+-- `slot::edit::replace` meets its contract. Assumes nothing.
 use mathlib.Core.Path.{_≡_, ap, sym, _∙_}
 use Prim.Native.Nat.{_-_}
 use native.Mathlib.Nat.{sub-zero}

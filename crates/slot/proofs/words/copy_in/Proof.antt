@@ -1,4 +1,4 @@
--- `slot::copy_in` meets its contract: after j turns the first j words are pasted.
+-- `slot::words::copy_in` meets its contract: after j turns the first j words are pasted.
 -- Assumes nothing.
 use mathlib.Core.Path.{_≡_, refl}
 use Prim.Native.Nat.{_-_, _≤_}

@@ -1,4 +1,4 @@
--- `slot::put_head` meets its contract. Assumes nothing.
+-- `slot::words::put_head` meets its contract. Assumes nothing.
 use native.Mathlib.Omega.{arith}
 use lib.ListN.{length-set}
 use denote.Ref.{now}

@@ -1,4 +1,4 @@
--- `slot::splice` meets its contract: three pastes, one after the other. Assumes nothing.
+-- `slot::words::splice` meets its contract: three pastes, one after the other. Assumes nothing.
 use denote.Ref.{now}
 use Rattle.slot.proofs.Pieces.{splices}
 use borrow.Author.Needs.{needs}

@@ -1,4 +1,4 @@
--- `slot::write_slot` meets its contract: the head, the records, the places and the lines. Assumes nothing.
+-- `slot::words::write_slot` meets its contract: the head, the records, the places and the lines. Assumes nothing.
 use denote.Ref.{now}
 use Rattle.slot.proofs.Pieces.{writes}
 use borrow.Author.Needs.{needs}
