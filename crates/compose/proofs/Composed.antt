@@ -1,21 +1,17 @@
 -- A line composed from its sums, amounts and places, as `compose_line` does it. Assumes nothing.
 use mathlib.Core.Path.{_≡_, ap, _∙_}
-use Prim.Native.Nat.{ℕ, _+_, _*_, _-_, _≤_}
+use Prim.Native.Nat.{ℕ, _+_, _*_, _-_}
 use native.Mathlib.Omega.{arith}
-use mathlib.Core.Bool.{Bool, true, false, cond}
+use mathlib.Core.Bool.{Bool, cond}
 use mathlib.Core.List.{List, [], _∷_}
 use lib.Seq.{paste}
 use Rattle.rules.specs.Breaks.{Gap}
 use Rattle.rules.specs.Adjustment.{Amounts, natural, amounts, amountsOf, kindOf, lineOf}
 use Rattle.rules.specs.Values.{gapFrom}
-use Rattle.rules.proofs.Ends.{taken}
+use Rattle.rules.proofs.Ends.{taken, at-most}
 use Rattle.compose.specs.Lines.{lineAt}
 use Rattle.compose.specs.Adjusted.{SumsOf, LineToPlace, LinePlaced, LineToCompose, LineComposed}
 use Rattle.compose.specs.declared.adjustment.Sums.{Sums}
-
-at-most : (b : Bool) (n : ℕ) → cond b 0 n ≤ n
-at-most true n = omega arith
-at-most false n = omega arith
 
 -- the end of a line that is not adjusted, by its sums
 abbrev naturalBy : ℕ → Sums → ℕ

@@ -96,9 +96,6 @@ last-is count k l (g ∷ ls) n = ne-eqb (k + 1) count (λ z. omega arith)
 pub fits-first : {m x : ℕ} {l : Run TextUnit} {ls : List (Run TextUnit)} → Fits m x (l ∷ ls) → x + width l ≤ m
 fits-first (fits-more h f) = h
 
-pub fits-rest : {m x : ℕ} {l : Run TextUnit} {ls : List (Run TextUnit)} → Fits m x (l ∷ ls) → Fits m 0 ls
-fits-rest (fits-more h f) = f
-
 -- words ----------------------------------------------------------------------------------------------------------
 
 pub places-first : (k m x : ℕ) (l : Run TextUnit) (ls : List (Run TextUnit)) →

@@ -14,13 +14,14 @@ use Rattle.rules.specs.Adjustment.{isEmpty, lineOf, linesOf, compose}
 use Rattle.rules.specs.Sheet.{placesOf, placeWords, lineWords}
 use Rattle.rules.specs.Meanings.{Fits}
 use Rattle.rules.proofs.Breaking.{breaking-choice, lines-fit}
+use Rattle.rules.proofs.Unique.{fits-tail}
 use Rattle.compose.specs.Paragraph.{size, paragraph, from}
 use Rattle.compose.specs.Lines.{firsts, lineAt, broken, composed, Composable, Written}
 use Rattle.compose.specs.Adjusted.{LineToCompose, wordsOf, LineComposed}
 use Rattle.compose.proofs.Pastes.{Pasting, paste-start, paste-length, paste-more}
 use Rattle.compose.proofs.PlaceWords.{length-line}
 use Rattle.compose.proofs.FirstLine.{from-none, lines-few, FirstLine, first-line, end-is, last-is}
-use Rattle.compose.proofs.FirstLine.{fits-first, fits-rest, places-first, words-first, drop-next}
+use Rattle.compose.proofs.FirstLine.{fits-first, places-first, words-first, drop-next}
 
 -- k lines are composed, up to record i; `left` are still to come, the first of them from `start` on
 pub record LinesToCome (ws starts places₀ lines₀ : List ℕ) (count m x : ℕ) (places lines : List ℕ) (k i start : ℕ)
@@ -132,7 +133,7 @@ module _ {ws us gs starts places₀ lines₀ : List ℕ} {count m x : ℕ}
             number = omega arith;
             first-records = drop-next (take count starts) k i _ (rw (parts .2, z .ends) at (q .first-records));
             joins-up = z .rest;
-            fits = fits-rest (rw (parts .2) at (q .fits));
+            fits = fits-tail (rw (parts .2) at (q .fits));
             within = z .within;
             place-words =
                 paste-more (placesOf k (v .xs)) (placeWords (k + 1) (linesOf m 0 ls)) (2 * (j - i)) (2 * i) (2 * j)

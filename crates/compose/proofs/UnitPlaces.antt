@@ -1,6 +1,6 @@
 -- The places of a unit's records, as `place_unit` writes them. Assumes nothing.
 use mathlib.Core.Path.{_≡_, refl, ap, sym, _∙_}
-use Prim.Native.Nat.{ℕ, zero, suc, _+_, _*_, _-_, _≤_, _<_}
+use Prim.Native.Nat.{ℕ, suc, _+_, _*_, _-_, _≤_, _<_}
 use native.Mathlib.Omega.{arith}
 use native.Mathlib.Nat.{add-zero, sub-zero}
 use mathlib.Core.List.{List, [], _∷_, _++_, map}
@@ -13,17 +13,12 @@ use Rattle.rules.specs.Sheet.{placesOf}
 use Rattle.rules.specs.Values.{OffsetBounds}
 use Rattle.rules.proofs.Cuts.{cut-joined}
 use Rattle.rules.proofs.Bounds.{rubyTotal-small, shift-small}
+use Rattle.rules.proofs.Words.{take-records}
 use Rattle.compose.specs.Paragraph.{size, from, unitAt, nextAt}
 use Rattle.compose.specs.Adjusted.{unitPlaces, withUnit, UnitToPlace}
 use Rattle.compose.proofs.Walk.{unit-step}
 use Rattle.compose.proofs.Limits.{record-limits, unit-records}
 use Rattle.compose.proofs.Pastes.{Pasting, paste-start, paste-length, paste-more}
-
-take-records : (ws : List ℕ) (i n k : ℕ) → k ≤ n → take k (records ws i n) ≡ records ws i k
-unfolding records
-take-records ws i n zero h = refl
-take-records ws i zero (suc k) h = let z : ⊥ = omega arith in absurd z
-take-records ws i (suc n) (suc k) h = ap (λ rs. recAt ws i ∷ rs) (take-records ws (suc i) n k (omega arith))
 
 -- a unit's records, by their number
 unit-whole : (ws : List ℕ) (a : ℕ) → a < size ws → whole (unitAt ws a) ≡ records ws a (count (unitAt ws a))

@@ -15,7 +15,7 @@ use lib.Seq.{paste}
 use Rattle.rules.specs.Basics.{Run, whole}
 use Rattle.rules.specs.Groups.{TextUnit, count, counts, baseOffsets}
 use Rattle.rules.specs.Breaks.{Gap, width}
-use Rattle.rules.specs.Adjustment.{Amounts, Line, nothing, totals, unitAdvances, placed, ending, lineOf}
+use Rattle.rules.specs.Adjustment.{Amounts, Line, nothing, gapsOf, unitAdvances, placed, ending, lineOf}
 use Rattle.rules.specs.Sheet.{placesOf}
 use Rattle.rules.specs.Values.{gapFrom}
 use Rattle.compose.specs.Paragraph.{size, unitAt, Checked}
@@ -26,9 +26,6 @@ use Rattle.compose.specs.declared.adjustment.Stages.{Stages}
 
 abbrev pub amountsFrom : Stages → Amounts
 amountsFrom e = record { shrink₁ = e .shrink1; shrink₂ = e .shrink2; stretch₁ = e .stretch1; stretch₂ = e .stretch2 }
-
-abbrev pub gapsOf : Run TextUnit → Gap
-gapsOf l = totals (l .first) (l .rest)
 
 -- the records from i up to j, which are those of a line or start one
 pub record LineToSum (ws us gs : List ℕ) (i j : ℕ) : Type 0 where

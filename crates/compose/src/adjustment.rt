@@ -10,6 +10,7 @@ ghost use Rattle.compose.specs.Lines.{lineAt};
 ghost use Rattle.compose.specs.Adjusted.{amountsFrom, LineToSum, SumsOf, Within, PartOf, floors};
 ghost use Rattle.compose.specs.Adjusted.{spaceBetween, Between};
 use rules::Gap;
+use rules::over;
 
 // What a line's units and gaps add up to.
 pub(crate) struct Sums {
@@ -116,13 +117,6 @@ pub(crate) fn line_sums(
     }
 }
 
-// What `a` has over `b`: 0 where it has nothing.
-fn over(a: u32, b: u32) -> u32
-    ensures { λ d. ⌜ d ≡ a - b ⌝ }
-{
-    if b < a { a - b } else { 0 }
-}
-
 fn smaller(a: u32, b: u32) -> u32
     ensures { λ r. ⌜ r ≡ min a b ⌝ }
 {
@@ -143,15 +137,15 @@ fn narrow(natural: u32, m: u32, last: bool) -> u32
 pub(crate) fn line_amounts(natural: u32, m: u32, last: bool, c: Gap) -> Stages
     ensures { λ r. ⌜ amountsFrom r ≡ amounts (natural - m) (cond last 0 (m - natural)) (gapFrom c) ⌝ }
 {
-    let wide = over(natural, m);
-    let narrow = narrow(natural, m, last);
-    let shrink1 = smaller(wide, c.shrink1);
-    let stretch1 = smaller(narrow, c.stretch1);
+    let shrink = over(natural, m);
+    let stretch = narrow(natural, m, last);
+    let shrink1 = smaller(shrink, c.shrink1);
+    let stretch1 = smaller(stretch, c.stretch1);
     Stages {
         shrink1: shrink1,
-        shrink2: wide - shrink1,
+        shrink2: shrink - shrink1,
         stretch1: stretch1,
-        stretch2: narrow - stretch1,
+        stretch2: stretch - stretch1,
     }
 }
 

@@ -31,7 +31,7 @@ fn all_narrow(ws: &[u32], runs: &[u32; 768], m: u32, x: u32) -> bool
 }
 
 // The first record of the first run that is too wide, or how many records there are. The first run starts at `x`.
-pub fn first_wide_run(ws: &[u32], runs: &[u32; 768], m: u32, x: u32) -> usize
+pub(crate) fn first_wide_run(ws: &[u32], runs: &[u32; 768], m: u32, x: u32) -> usize
     requires { ⌜ Checked (now ws) × RunTable (now ws) (now runs) × (x ≤ 1000000) ⌝ }
     ensures { λ r. ⌜ r ≡ placeOr (size (now (ws .entry))) (noBreaking m x (units (paragraph (now (ws .entry))))) ⌝ }
 {
@@ -54,7 +54,13 @@ pub fn first_wide_run(ws: &[u32], runs: &[u32; 768], m: u32, x: u32) -> usize
 }
 
 // Writes the first record of each line, and says how many lines there are. Line 0 starts at `x`.
-pub fn break_lines(ws: &[u32], runs: &[u32; 768], m: u32, x: u32, starts: &mut [u32; 256]) -> usize
+pub(crate) fn break_lines(
+    ws: &[u32],
+    runs: &[u32; 768],
+    m: u32,
+    x: u32,
+    starts: &mut [u32; 256],
+) -> usize
     requires { ⌜ Checked (now ws) × RunTable (now ws) (now runs) × (x ≤ 1000000) × (m ≤ 1000000) ⌝ }
     ensures { λ r. ⌜ Broken (now (ws .entry)) m x (now (starts .exit)) r ⌝ }
 {

@@ -25,7 +25,7 @@ pub(crate) fn record_at(ws: &[u32], i: usize) -> Record
 }
 
 // The first record that breaks its own rules, or how many there are.
-pub fn first_bad_record(ws: &[u32]) -> usize
+pub(crate) fn first_bad_record(ws: &[u32]) -> usize
     ensures { λ r. ⌜ r ≡ placeOr (size (now (ws .entry))) (badRecord 0 (paragraph (now (ws .entry)))) ⌝ }
 {
     let n = ws.len() / 6;
@@ -47,7 +47,7 @@ pub(crate) fn same_group(g: u32, h: u32) -> bool
 }
 
 // The first record that breaks a group's rule, or how many there are.
-pub fn first_group_fault(ws: &[u32]) -> usize
+pub(crate) fn first_group_fault(ws: &[u32]) -> usize
     ensures { λ r. ⌜ r ≡ placeOr (size (now (ws .entry))) (groupFault (paragraph (now (ws .entry)))) ⌝ }
 {
     let n = ws.len() / 6;

@@ -148,7 +148,7 @@ fn line_end(starts: &[u32; 256], count: usize, k: usize, size: usize) -> usize
 }
 
 // Composes the lines of a paragraph: writes the places of its records and the words of its lines.
-pub fn place_lines(
+pub(crate) fn place_lines(
     ws: &[u32],
     units: &[u32; 768],
     gaps: &[u32; 1280],

@@ -12,6 +12,7 @@ ghost use Rattle.rules.specs.Values.{sideOf, gapFrom};
 ghost use Rattle.compose.specs.Paragraph.{size, Checked};
 ghost use Rattle.compose.specs.Tables.{UnitTable, gapWords, Gives, GapTable};
 ghost use Rattle.compose.specs.Tables.{RowOf, RunsAfter, RunTable};
+use crate::adjustment::no_gaps;
 use crate::checks::record_at;
 use crate::checks::same_group;
 use rules::Gap;
@@ -32,7 +33,7 @@ fn put_row(table: &mut [u32], i: usize, first: u32, second: u32, third: u32)
 }
 
 // For each record the unit that starts with it: its records, its base total and its advance.
-pub fn fill_units(ws: &[u32], units: &mut [u32; 768])
+pub(crate) fn fill_units(ws: &[u32], units: &mut [u32; 768])
     requires { ⌜ Checked (now ws) ⌝ }
     ensures { λ _. ⌜ UnitTable (now (ws .entry)) (now (units .exit)) ⌝ }
 {
@@ -82,17 +83,6 @@ fn put_gap(gaps: &mut [u32], i: usize, gap: Gap)
     gaps[a + 4] = gap.stretch2;
 }
 
-// Where no unit follows.
-fn no_gap() -> Gap {
-    Gap {
-        space: 0,
-        shrink1: 0,
-        shrink2: 0,
-        stretch1: 0,
-        stretch2: 0,
-    }
-}
-
 // The least that a gap can be.
 fn least_of(gap: Gap) -> u32
     requires { ⌜ Gives (gapFrom gap) ⌝ }
@@ -120,7 +110,7 @@ fn row_at(ws: &[u32], units: &[u32; 768], runs: &[u32; 768], i: usize) -> Row
     let next = i + records as usize;
     if ws.len() / 6 <= next {
         return Row {
-            gap: no_gap(),
+            gap: no_gaps(),
             width: advance,
             records: records,
             least: 0,
@@ -154,7 +144,7 @@ fn row_at(ws: &[u32], units: &[u32; 768], runs: &[u32; 768], i: usize) -> Row
 
 // For each record the gap after the unit that starts with it, where another unit follows; and the run that starts with
 // that unit: its smallest width, its records, and the least of the gap after it.
-pub fn fill_gaps_and_runs(
+pub(crate) fn fill_gaps_and_runs(
     ws: &[u32],
     units: &[u32; 768],
     gaps: &mut [u32; 1280],

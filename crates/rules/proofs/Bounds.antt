@@ -37,8 +37,8 @@ pub record RubyBounds (base n s k : ℕ) : Type 0 where
   pub size : s ≤ 4000
   pub character : k < n
 
-most : (lo hi x : ℕ) → within lo hi x ≡ true → x ≤ hi
-most lo hi x e = leb-true x hi (and-eq-true-iff (leb lo x) (leb x hi) .0 e .1)
+pub within-high : (lo hi x : ℕ) → within lo hi x ≡ true → x ≤ hi
+within-high lo hi x e = leb-true x hi (and-eq-true-iff (leb lo x) (leb x hi) .0 e .1)
 
 pub rubyOk-bounds : (base n s k : ℕ) → rubyOk base n s k ≡ true → RubyBounds base n s k
 unfolding sizeOk
@@ -48,8 +48,8 @@ rubyOk-bounds base n s k e =
     let t = and-eq-true-iff (sizeOk s) (within 1 64 n) .0 (q .0) in
     let u = and-eq-true-iff (eqb (s % 8) 0) (within 8 4000 s) .0 (t .0) in
     record {
-      total = most 1 64000 base (p .1);
-      characters = most 1 64 n (t .1);
-      size = most 8 4000 s (u .1);
+      total = within-high 1 64000 base (p .1);
+      characters = within-high 1 64 n (t .1);
+      size = within-high 8 4000 s (u .1);
       character = ltb-true k n (q .1);
     }

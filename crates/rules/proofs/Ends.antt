@@ -11,7 +11,8 @@ use borrow.Author.Tests.{ltb-true, ltb-false, eqb-true, eqb-false}
 use Rattle.rules.specs.Basics.{Run}
 use Rattle.rules.specs.Groups.{TextUnit}
 use Rattle.rules.specs.Breaks.{Gap, width}
-use Rattle.rules.specs.Adjustment.{Amounts, amounts, amountsOf, share, nothing, totals, natural, kindOf, lineOf}
+use Rattle.rules.specs.Adjustment.{Amounts, amounts, amountsOf, share, nothing, totals, gapsOf, natural}
+use Rattle.rules.specs.Adjustment.{kindOf, lineOf}
 use Rattle.rules.specs.Meanings.{GapAt, gap-here, gap-later, WithinLimits, FirstStageFull}
 use Rattle.rules.proofs.Facts.{tested}
 use Rattle.rules.proofs.Widths.{natural-smallest}
@@ -30,9 +31,6 @@ pub record Taken (m x : ℕ) (final : Bool) (l : Run TextUnit) (e : Amounts) (c 
   pub under : e .stretch₁ + e .stretch₂ ≡ narrow m x final l
   pub full-shrink : 0 < e .shrink₂ → e .shrink₁ ≡ c .shrink₁
   pub full-stretch : 0 < e .stretch₂ → e .stretch₁ ≡ c .stretch₁
-
-abbrev gapsOf : Run TextUnit → Gap
-gapsOf l = totals (l .first) (l .rest)
 
 pub taken : (m x : ℕ) (final : Bool) (l : Run TextUnit) → x + width l ≤ m →
     Taken m x final l (amountsOf m x final l) (gapsOf l)
@@ -96,16 +94,16 @@ spread-within e c =
       | inr q ↦ omega (arith, spread-all e c (eqb-false (c .stretch₂) 0 q))
     ]
 
+pub at-most : (b : Bool) (n : ℕ) → cond b 0 n ≤ n
+at-most true n = omega arith
+at-most false n = omega arith
+
 -- no line ends past the measure
 pub ends-within : (m x : ℕ) (final : Bool) (l : Run TextUnit) → x + width l ≤ m → lineOf m x final l .end ≤ m
 ends-within m x final l h =
     let t = taken m x final l h in
-    let n : narrow m x final l ≤ m - natural x l = at-most final in
+    let n : narrow m x final l ≤ m - natural x l = at-most final (m - natural x l) in
     omega (arith, end-law m x final l h, spread-within (amountsOf m x final l) (gapsOf l), t .under)
-  where
-    at-most : (f : Bool) → cond f 0 (m - natural x l) ≤ m - natural x l
-    at-most true = omega arith
-    at-most false = omega arith
 
 -- a line wider than the measure ends at it, final or not
 pub wide-ends : (m x : ℕ) (final : Bool) (l : Run TextUnit) → x + width l ≤ m → m ≤ natural x l →

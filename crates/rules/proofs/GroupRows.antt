@@ -2,7 +2,7 @@
 use mathlib.Core.Path.{_≡_, ap, _∙_}
 use Prim.Native.Nat.{ℕ, suc, _+_, _*_, _-_, _/_, _≤_, _<_}
 use native.Mathlib.Omega.{arith}
-use native.Mathlib.Nat.{add-zero, zero-add, add-suc, suc-add, add-assoc, suc-mul, mul-le-mul-left, mul-le-mul-right}
+use native.Mathlib.Nat.{add-zero, zero-add, add-suc, suc-add, add-assoc, suc-mul, mul-le-mul-right}
 use mathlib.Core.List.{List, [], _∷_, _++_}
 use lib.ListN.{length, getD, length-append}
 use Rattle.rules.specs.Basics.{whole}
@@ -10,7 +10,6 @@ use Rattle.rules.specs.Records.{Rec}
 use Rattle.rules.specs.Groups.{TextUnit, count, advances, baseTotal, rubyTotal, groupAdvance, advance, shift}
 use Rattle.rules.specs.Groups.{baseOffset, offsets, baseOffsets, rubyOffset}
 use Rattle.rules.proofs.Bounds.{shift-small}
-use Rattle.rules.proofs.Shares.{div-mono}
 
 advances-append : (rs qs : List Rec) → advances (rs ++ qs) ≡ advances rs + advances qs
 unfolding advances
@@ -58,8 +57,3 @@ unfolding rubyOffset groupAdvance
 ruby-within base n s k h =
     let a : suc k * (s / 2) ≤ n * (s / 2) = mul-le-mul-right (s / 2) h in
     omega (arith, shift-small (base - rubyTotal n s) n k h, suc-mul k (s / 2))
-
--- items stand in order, one past the other
-pub shift-ordered : (d n k : ℕ) → shift d n k ≤ shift d n (suc k)
-unfolding shift
-shift-ordered d n k = div-mono (d * (2 * k + 1)) (d * (2 * suc k + 1)) (2 * n) (mul-le-mul-left d (omega arith))

@@ -2,20 +2,20 @@
 use mathlib.Core.Path.{_≡_, refl, sym}
 use Prim.Native.Nat.{ℕ, zero, suc, _+_, _*_, _/_, _%_, _≤_, _<_}
 use native.Mathlib.Omega.{arith}
-use native.Mathlib.Nat.{le-trans, mul-le-mul-left, mul-le-mul-right}
 use mathlib.Core.Bool.{Bool, true, false, cond, not, _&&_}
 use mathlib.Core.List.{List, [], _∷_}
 use mathlib.Core.Logic.{inl, inr}
 use mathlib.Core.Option.{none, some}
 use lib.Dec.{leb, ltb, eqb}
 use lib.ListN.{drop}
-use borrow.Author.Tests.{leb-true, ltb-true, eqb-true}
+use borrow.Author.Tests.{ltb-true, eqb-true}
 use Rattle.rules.specs.Basics.{cut, within, isIn}
 use Rattle.rules.specs.Records.{Rec, codeOk, classOk, sizeOk, AdvanceKind, half-size, to-size, to-twice}
 use Rattle.rules.specs.Records.{full-size, advanceKind, advanceFits, advanceOk, groupOk, recOk, badRecord}
 use Rattle.rules.specs.Groups.{TextUnit, sameGroup, badGroup, groupFault, units, count, groupAdvance, Side}
 use Rattle.rules.specs.Space.{Fraction, no-part, eighth, quarter, half, part, Space, measured}
 use Rattle.rules.specs.Breaks.{Flexibility, early, late, rigid, brought, Gap, gapBy, gapOf, weight, forbidden}
+use Rattle.rules.proofs.Bounds.{rubyTotal-small, within-high}
 use Rattle.rules.proofs.Cuts.{cut-first}
 use Rattle.rules.proofs.Facts.{tested, true-false, nil-cons, some-none}
 
@@ -33,9 +33,6 @@ and-left false b e = e
 pub and-right : (a b : Bool) → a && b ≡ true → b ≡ true
 and-right true b e = e
 and-right false b e = absurd (true-false (sym e))
-
-within-high : (lo hi x : ℕ) → within lo hi x ≡ true → x ≤ hi
-within-high lo hi x e = leb-true x hi (and-right (leb lo x) (leb x hi) e)
 
 advance-bound : (k : AdvanceKind) (s a : ℕ) → advanceFits k s a ≡ true → a ≤ 2 * s
 advance-bound half-size s a e = omega (arith, eqb-true a (s / 2) e)
@@ -156,10 +153,7 @@ units-few (r ∷ rs) h k = group-each 1 1 r rs (omega arith) (omega arith) h k
 -- the advance of a unit of at most 16 records, and of its ruby
 pub advance-bound-of : (base n s : ℕ) → base ≤ 128000 → n ≤ 64 → s ≤ 4000 → groupAdvance base n s ≤ 128000
 unfolding groupAdvance
-advance-bound-of base n s b h k =
-    let d : s / 2 ≤ 2000 = omega arith in
-    let p : n * (s / 2) ≤ 64 * 2000 = le-trans (mul-le-mul-left n d) (mul-le-mul-right 2000 h) in
-    omega arith
+advance-bound-of base n s b h k = omega (arith, rubyTotal-small n s h k)
 
 -- Gaps -------------------------------------------------------------------------------------------------------------
 

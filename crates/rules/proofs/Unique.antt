@@ -55,7 +55,7 @@ past-longest m x l k t ls ks (longest-more h g) (fits-more f d) a e q =
     let n : x + width (then k t) ≤ m = rw (← p, ← r) f in
     omega arith
 
-fits-tail : {m x : ℕ} {l : Run TextUnit} {ls : List (Run TextUnit)} → Fits m x (l ∷ ls) → Fits m 0 ls
+pub fits-tail : {m x : ℕ} {l : Run TextUnit} {ls : List (Run TextUnit)} → Fits m x (l ∷ ls) → Fits m 0 ls
 fits-tail (fits-more h f) = f
 
 longest-tail : {m x : ℕ} {l : Run TextUnit} {ls : List (Run TextUnit)} → Longest m x (l ∷ ls) → Longest m 0 ls

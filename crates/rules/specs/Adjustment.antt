@@ -32,13 +32,17 @@ unfoldable pub totals : TextUnit → List TextUnit → Gap
 totals u [] = nothing
 totals u (v ∷ us) = plus (gap u v) (totals v us)
 
+-- what a line's gaps add up to
+abbrev pub gapsOf : Run TextUnit → Gap
+gapsOf l = totals (l .first) (l .rest)
+
 unfoldable pub unitAdvances : List TextUnit → ℕ
 unitAdvances [] = 0
 unitAdvances (u ∷ us) = advance u + unitAdvances us
 
 -- the end of a line that starts at x and is not adjusted
 abbrev pub natural : ℕ → Run TextUnit → ℕ
-natural x l = x + unitAdvances (whole l) + totals (l .first) (l .rest) .space
+natural x l = x + unitAdvances (whole l) + gapsOf l .space
 
 -- the amounts of a line's four stages
 pub record Amounts : Type 0 where
@@ -62,7 +66,7 @@ amounts over under c =
 unfoldable pub amountsOf : ℕ → ℕ → Bool → Run TextUnit → Amounts
 amountsOf m x final l =
     let n = natural x l in
-    amounts (n - m) (cond final 0 (m - n)) (totals (l .first) (l .rest))
+    amounts (n - m) (cond final 0 (m - n)) (gapsOf l)
 
 -- "An amount E within a stage is shared by cumulative capacity (or weight) S over total C: gap i gets
 -- floor(E·S_i/C) − floor(E·S_(i−1)/C). A stage with C=0 is skipped": a quotient by 0 is 0.

@@ -12,7 +12,7 @@ pub(crate) fn between(lo: u32, hi: u32, x: u32) -> bool
 }
 
 // What `a` is over `b`, or 0.
-pub(crate) fn over(a: u32, b: u32) -> u32
+pub fn over(a: u32, b: u32) -> u32
     ensures { λ d. ⌜ d ≡ a - b ⌝ }
 {
     if b < a { a - b } else { 0 }

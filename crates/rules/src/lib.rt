@@ -5,6 +5,7 @@ mod groups;
 mod records;
 mod space;
 
+pub use basics::over;
 pub use breaks::Gap;
 pub use breaks::break_forbidden;
 pub use breaks::gap_between;
@@ -13,8 +14,5 @@ pub use groups::Side;
 pub use groups::base_offset;
 pub use groups::group_advance;
 pub use groups::ruby_place;
-pub use records::AdvanceKind;
-pub use records::ClassRow;
 pub use records::Record;
-pub use records::class_row;
 pub use records::record_ok;

@@ -15,7 +15,7 @@ pub struct Record {
 }
 
 // What an advance is to its size: half of it, up to it, up to twice it, or the size itself.
-pub enum AdvanceKind {
+pub(crate) enum AdvanceKind {
     HalfSize,
     ToSize,
     ToTwice,
@@ -23,7 +23,7 @@ pub enum AdvanceKind {
 }
 
 // A class's place among the eighteen, from 0, and its kind of advance.
-pub struct ClassRow {
+pub(crate) struct ClassRow {
     pub row: u32,
     pub kind: AdvanceKind,
 }
@@ -95,7 +95,7 @@ fn kind_numbered(n: u32) -> AdvanceKind
 }
 
 // What the table has for a class number.
-pub fn class_row(class: u32) -> ClassRow
+fn class_row(class: u32) -> ClassRow
     ensures { λ r. ⌜ Classed class r ⌝ }
 {
     let entry = if class < 28 {

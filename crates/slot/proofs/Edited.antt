@@ -5,7 +5,7 @@ use mathlib.Core.List.{List, _++_}
 use mathlib.Core.Bool.{true}
 use Prim.Native.Nat.{ℕ, _+_, _-_, _*_, _/_, _%_, _≤_}
 use native.Mathlib.Omega.{arith}
-use lib.ListN.{length, take, drop, length-append, length-drop}
+use lib.ListN.{length, take, drop, length-append}
 use lib.Seq.{take-at, drop-at, length-take-le}
 use Rattle.rules.specs.Basics.{zeros}
 use Rattle.rules.specs.Records.{records}
@@ -13,6 +13,7 @@ use Rattle.rules.specs.Sheet.{countOf, measureOf, indentOf, limitsOk}
 use Rattle.rules.specs.Refusals.{edited}
 use Rattle.compose.specs.Paragraph.{size, paragraph}
 use Rattle.slot.specs.Slot.{spliced, Replaceable}
+use Rattle.slot.proofs.Stored.{old-room}
 use Rattle.slot.proofs.Spliced.{spliced-records, length-spliced}
 use Rattle.rules.proofs.Zeros.{length-zeros, drop-zeros}
 
@@ -30,9 +31,6 @@ module _ (s : List ℕ) (p d : ℕ) (ins : List ℕ) (len : length s ≡ 2824) (
   unfolding k
   inserted = omega arith
 
-  old-room : 6 * countOf s ≤ length (drop 8 s)
-  old-room = omega (arith, length-drop 8 s)
-
   total : ℕ
   total = (countOf s - d) * 6 + length ins
 
@@ -47,18 +45,22 @@ module _ (s : List ℕ) (p d : ℕ) (ins : List ℕ) (len : length s ≡ 2824) (
   length-words : length list-words ≡ total
   unfolding list-words old total k
   length-words =
-      length-spliced (drop 8 s) ins (countOf s) p d (length ins / 6) old-room within (omega arith) ∙ omega arith
+      length-spliced (drop 8 s) ins (countOf s) p d (length ins / 6) (old-room s len few) within (omega arith)
+      ∙ omega arith
 
   records-words : paragraph list-words ≡ edited s p d ins
   unfolding list-words old total k
   records-words =
       ap (λ n. records (spliced (take (6 * countOf s) (drop 8 s)) (6 * p) (6 * (p + d)) ins) 0 n) sized
-      ∙ spliced-records (drop 8 s) ins (countOf s) p d (length ins / 6) old-room within (omega arith)
+      ∙ spliced-records (drop 8 s) ins (countOf s) p d (length ins / 6) (old-room s len few) within (omega arith)
     where
       sized : size (spliced (take (6 * countOf s) (drop 8 s)) (6 * p) (6 * (p + d)) ins) ≡ p +
           (length ins / 6 + (countOf s - (p + d)))
       sized =
-          omega (arith, length-spliced (drop 8 s) ins (countOf s) p d (length ins / 6) old-room within (omega arith))
+          omega (
+            arith,
+            length-spliced (drop 8 s) ins (countOf s) p d (length ins / 6) (old-room s len few) within (omega arith),
+          )
 
   -- the list that the program makes: those words, and zeros
   pub record NewList (list : List ℕ) : Type 0 where
@@ -77,7 +79,7 @@ module _ (s : List ℕ) (p d : ℕ) (ins : List ℕ) (len : length s ≡ 2824) (
       let b : p * 6 ≡ 6 * p = omega arith in
       let c : (p + d) * 6 ≡ 6 * (p + d) = omega arith in
       let l : length (take (6 * countOf s) (drop 8 s)) ≡ 6 * countOf s =
-      length-take-le (6 * countOf s) (drop 8 s) old-room in
+      length-take-le (6 * countOf s) (drop 8 s) (old-room s len few) in
       let n : 6 * p + length ins + (length (take (6 * countOf s) (drop 8 s)) - 6 * (p + d)) ≡ total = omega arith in
       let f : list ≡ list-words ++ drop total (zeros 1536) = rw (a, b, c, n) at e in
       let z : drop total (zeros 1536) ≡ zeros (1536 - total) = drop-zeros 1536 total room in

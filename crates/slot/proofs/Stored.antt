@@ -12,6 +12,7 @@ use Rattle.rules.specs.Basics.{within}
 use Rattle.rules.specs.Records.{records}
 use Rattle.rules.specs.Sheet.{measureOf, indentOf, countOf, recordsOf, limitsOk}
 use Rattle.rules.specs.Refusals.{judged, sound}
+use Rattle.rules.proofs.Bounds.{within-high}
 use Rattle.rules.proofs.Limits.{and-left, and-right}
 use Rattle.rules.proofs.Words.{records-take}
 use Rattle.compose.specs.Paragraph.{size, paragraph}
@@ -19,8 +20,7 @@ use Rattle.compose.specs.Composed.{Fitting}
 
 -- measure and indent within limits
 pub limits-measure : (m x : ℕ) → limitsOk m x ≡ true → m ≤ 1000000
-limits-measure m x e =
-    leb-true m 1000000 (and-right (leb 8 m) (leb m 1000000) (and-left (within 8 1000000 m) (ltb x m) e))
+limits-measure m x e = within-high 8 1000000 m (and-left (within 8 1000000 m) (ltb x m) e)
 
 pub limits-indent : (m x : ℕ) → limitsOk m x ≡ true → x < m
 limits-indent m x e = ltb-true x m (and-right (within 8 1000000 m) (ltb x m) e)
@@ -43,17 +43,17 @@ fitting ws m x h e =
 
 -- the part of a slot that its records are
 module _ (s : List ℕ) (len : length s ≡ 2824) (few : countOf s ≤ 256) where
-  room : 6 * countOf s ≤ length (drop 8 s)
-  room = omega (arith, length-drop 8 s)
+  pub old-room : 6 * countOf s ≤ length (drop 8 s)
+  old-room = omega (arith, length-drop 8 s)
 
   part : take (8 + 6 * countOf s - 8) (drop 8 s) ≡ take (6 * countOf s) (drop 8 s)
   part = let e : 8 + 6 * countOf s - 8 ≡ 6 * countOf s = omega arith in rw e
 
   pub stored-size : size (take (8 + 6 * countOf s - 8) (drop 8 s)) ≤ 256
-  stored-size = rw part (omega (arith, front-size (drop 8 s) (countOf s) room))
+  stored-size = rw part (omega (arith, front-size (drop 8 s) (countOf s) old-room))
 
   pub stored-paragraph : paragraph (take (8 + 6 * countOf s - 8) (drop 8 s)) ≡ recordsOf s
-  stored-paragraph = ap (λ ws. paragraph ws) part ∙ front-paragraph (drop 8 s) (countOf s) room
+  stored-paragraph = ap (λ ws. paragraph ws) part ∙ front-paragraph (drop 8 s) (countOf s) old-room
 
 -- answer 4, test by test
 module _ (s : List ℕ) where

@@ -36,8 +36,8 @@ cast-next c = omega (arith, unit (c .before .before .before .pre) .few)
 add-next : tie.Need-add-next
 add-next c = omega (arith, unit (c .before .before .before .pre) .few)
 
-no-gap-requires : tie.Need-no-gap-requires
-no-gap-requires c κs = search needs
+no-gaps-requires : tie.Need-no-gaps-requires
+no-gaps-requires c κs = search needs
 
 returns : tie.Need-returns
 returns c =
@@ -171,7 +171,7 @@ row-at-spec =
     element-copy-out-advance
     cast-next
     add-next
-    no-gap-requires
+    no-gaps-requires
     returns
     side-at-requires
     side-at-requires-2
