@@ -70,15 +70,16 @@ fn link(library: &Path) {
     println!("cargo:rustc-link-lib=static=gelumbrio");
 }
 
-/// Has each call start on a cache line, whatever stands before it. A short one may otherwise lie
+/// Has each function start on a cache line, whatever stands before it. A short one may otherwise lie
 /// across a line more than it needs, which costs a read a tenth of its time. The library serves as
 /// it is where there is no objcopy.
 fn align(library: &Path) {
-    let calls = ["set_up", "edit", "read_number", "read", "ruby_place"];
-    let sections = calls.map(|call| format!("--set-section-alignment=.text.gelumbrio_{call}={CACHE_LINE}"));
-    match Command::new("objcopy").args(sections).arg(library).status() {
+    let sections = format!("--set-section-alignment=.text.*={CACHE_LINE}");
+    match Command::new("objcopy").arg(sections).arg(library).status() {
         Ok(status) if status.success() => {}
-        _ => println!("cargo:warning=objcopy could not align the calls; they are linked as they are"),
+        _ => println!(
+            "cargo:warning=objcopy could not align the library's functions; they are linked as they are"
+        ),
     }
 }
 
