@@ -40,47 +40,8 @@ next-row c =
 loop-holds : tie.Need-loop-holds Inv-search μ-search Inv-loop μ-loop
 loop-holds c = due-start (c .out .given .0 .1)
 
-cast-out : tie.Need-cast-out Inv-search μ-search Inv-loop μ-loop
-cast-out c = search needs
-
-mul-out : tie.Need-mul-out Inv-search μ-search Inv-loop μ-loop
-mul-out c = search needs
-
-slice-write-out : tie.Need-slice-write-out Inv-search μ-search Inv-loop μ-loop
-slice-write-out c = search needs
-
-add-lines : tie.Need-add-lines Inv-search μ-search Inv-loop μ-loop
-add-lines c = search needs
-
-mul-a : tie.Need-mul-a Inv-search μ-search Inv-loop μ-loop
-mul-a c = search needs
-
-mul-width : tie.Need-mul-width Inv-search μ-search Inv-loop μ-loop
-mul-width c = search needs
-
-element-copy-out-width : tie.Need-element-copy-out-width Inv-search μ-search Inv-loop μ-loop
-element-copy-out-width c = search needs
-
 add-width : tie.Need-add-width Inv-search μ-search Inv-loop μ-loop
 add-width c = omega (arith, first-row (c .before))
-
-add-gap : tie.Need-add-gap Inv-search μ-search Inv-loop μ-loop
-add-gap c = search needs
-
-mul-gap : tie.Need-mul-gap Inv-search μ-search Inv-loop μ-loop
-mul-gap c = search needs
-
-element-copy-out-gap : tie.Need-element-copy-out-gap Inv-search μ-search Inv-loop μ-loop
-element-copy-out-gap c = search needs
-
-add-i : tie.Need-add-i Inv-search μ-search Inv-loop μ-loop
-add-i c = search needs
-
-mul-i : tie.Need-mul-i Inv-search μ-search Inv-loop μ-loop
-mul-i c = search needs
-
-element-copy-out-i : tie.Need-element-copy-out-i Inv-search μ-search Inv-loop μ-loop
-element-copy-out-i c = search needs
 
 cast-i : tie.Need-cast-i Inv-search μ-search Inv-loop μ-loop
 cast-i c = omega (arith, first-row (c .before .before .before))
@@ -94,15 +55,6 @@ search-holds c =
     let s = d .before .before .before in
     (due-open (d .before .loop .inv) (omega arith) (s .pre .2) (first-row d), omega arith)
 
-mul-b : tie.Need-mul-b Inv-search μ-search Inv-loop μ-loop
-mul-b c = search needs
-
-mul-longer : tie.Need-mul-longer Inv-search μ-search Inv-loop μ-loop
-mul-longer c = search needs
-
-element-copy-out-longer : tie.Need-element-copy-out-longer Inv-search μ-search Inv-loop μ-loop
-element-copy-out-longer c = search needs
-
 add-longer : tie.Need-add-longer Inv-search μ-search Inv-loop μ-loop
 add-longer c =
     let d = c .before in
@@ -112,24 +64,6 @@ add-longer-2 : tie.Need-add-longer-2 Inv-search μ-search Inv-loop μ-loop
 add-longer-2 c =
     let d = c .before in
     omega (arith, next-row d, d .before .search .inv .0 .small (d .search-test .taken))
-
-add-gap-2 : tie.Need-add-gap-2 Inv-search μ-search Inv-loop μ-loop
-add-gap-2 c = search needs
-
-mul-gap-2 : tie.Need-mul-gap-2 Inv-search μ-search Inv-loop μ-loop
-mul-gap-2 c = search needs
-
-element-copy-out-gap-2 : tie.Need-element-copy-out-gap-2 Inv-search μ-search Inv-loop μ-loop
-element-copy-out-gap-2 c = search needs
-
-add-i-3 : tie.Need-add-i-3 Inv-search μ-search Inv-loop μ-loop
-add-i-3 c = search needs
-
-mul-i-2 : tie.Need-mul-i-2 Inv-search μ-search Inv-loop μ-loop
-mul-i-2 c = search needs
-
-element-copy-out-i-2 : tie.Need-element-copy-out-i-2 Inv-search μ-search Inv-loop μ-loop
-element-copy-out-i-2 c = search needs
 
 cast-i-2 : tie.Need-cast-i-2 Inv-search μ-search Inv-loop μ-loop
 cast-i-2 c = omega (arith, next-row (c .before .before .before .before))
@@ -172,34 +106,34 @@ break-lines-spec =
     Inv-loop
     μ-loop
     loop-holds
-    cast-out
-    mul-out
-    slice-write-out
-    add-lines
-    mul-a
-    mul-width
-    element-copy-out-width
+    (λ c. search needs)
+    (λ c. search needs)
+    (λ c. search needs)
+    (λ c. search needs)
+    (λ c. search needs)
+    (λ c. search needs)
+    (λ c. search needs)
     add-width
-    add-gap
-    mul-gap
-    element-copy-out-gap
-    add-i
-    mul-i
-    element-copy-out-i
+    (λ c. search needs)
+    (λ c. search needs)
+    (λ c. search needs)
+    (λ c. search needs)
+    (λ c. search needs)
+    (λ c. search needs)
     cast-i
     add-i-2
     search-holds
-    mul-b
-    mul-longer
-    element-copy-out-longer
+    (λ c. search needs)
+    (λ c. search needs)
+    (λ c. search needs)
     add-longer
     add-longer-2
-    add-gap-2
-    mul-gap-2
-    element-copy-out-gap-2
-    add-i-3
-    mul-i-2
-    element-copy-out-i-2
+    (λ c. search needs)
+    (λ c. search needs)
+    (λ c. search needs)
+    (λ c. search needs)
+    (λ c. search needs)
+    (λ c. search needs)
     cast-i-2
     add-i-4
     search-less

@@ -37,26 +37,11 @@ pair c =
 loop-holds : tie.Need-loop-holds Inv-loop μ-loop
 loop-holds c = grouped-start
 
-sub-record-at : tie.Need-sub-record-at Inv-loop μ-loop
-sub-record-at c = search needs
-
-record-at-requires : tie.Need-record-at-requires Inv-loop μ-loop
-record-at-requires c κs = search needs
-
-record-at-requires-2 : tie.Need-record-at-requires-2 Inv-loop μ-loop
-record-at-requires-2 c κs = search needs
-
-same-group-requires : tie.Need-same-group-requires Inv-loop μ-loop
-same-group-requires c κs = search needs
-
 returns : tie.Need-returns Inv-loop μ-loop
 returns c =
     let t = c .before .before .before .before .before in
     let joined = sym (t .before .same-group .ensures) ∙ t .if1 .taken in
     grouped-unlike (pair (t .before .before)) joined (not-true _ (c .if2 .taken))
-
-add-count : tie.Need-add-count Inv-loop μ-loop
-add-count c = search needs
 
 returns-2 : tie.Need-returns-2 Inv-loop μ-loop
 returns-2 c =
@@ -64,12 +49,6 @@ returns-2 c =
     let t = e .before .before .before .before .before in
     let joined = sym (t .before .same-group .ensures) ∙ t .if1 .taken in
     grouped-many (pair (t .before .before)) joined (not-false _ (e .if2 .left)) (omega arith)
-
-add-i : tie.Need-add-i Inv-loop μ-loop
-add-i c = search needs
-
-loop-less : tie.Need-loop-less Inv-loop μ-loop
-loop-less c = search needs
 
 loop-again : tie.Need-loop-again Inv-loop μ-loop
 loop-again c =
@@ -90,14 +69,14 @@ first-group-fault-spec =
     Inv-loop
     μ-loop
     loop-holds
-    sub-record-at
-    record-at-requires
-    record-at-requires-2
-    same-group-requires
+    (λ c. search needs)
+    (λ c κs. search needs)
+    (λ c κs. search needs)
+    (λ c κs. search needs)
     returns
-    add-count
+    (λ c. search needs)
     returns-2
-    add-i
-    loop-less
+    (λ c. search needs)
+    (λ c. search needs)
     loop-again
     returns-3)

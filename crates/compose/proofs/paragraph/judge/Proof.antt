@@ -8,12 +8,6 @@ use borrow.Author.Needs.{needs}
 use Rattle.compose.proofs.paragraph.judge.Statement.{statement}
 use Rattle.compose.proofs.paragraph.judge.Tie as tie
 
-first-bad-record-requires : tie.Need-first-bad-record-requires
-first-bad-record-requires c κs = search needs
-
-says-requires : tie.Need-says-requires
-says-requires c κs = search needs
-
 -- past answers 8 and 9 the paragraph is checked
 checked : (c : tie.Else2) → Checked (now (c .before .before .before .before .before .args .ws))
 checked c =
@@ -32,12 +26,6 @@ returns c =
     let k = c .before .before .first-bad-record in
     refusal (now (s .args .ws)) _ _ _ _ _ 8 (k .result) _ _ (c .says .ensures) (λ z. omega arith)
     (judged-8 _ _ _ _ (named (size (now (s .args .ws))) (k .result) _ (k .ensures) (c .before .if1 .taken)))
-
-first-group-fault-requires : tie.Need-first-group-fault-requires
-first-group-fault-requires c κs = search needs
-
-says-requires-2 : tie.Need-says-requires-2
-says-requires-2 c κs = search needs
 
 returns-2 : tie.Need-returns-2
 returns-2 c =
@@ -59,9 +47,6 @@ first-wide-run-requires c κs = (
   c .before .before .before .before .before .before .before .before .before .before .pre .indent,
 )
 
-says-requires-3 : tie.Need-says-requires-3
-says-requires-3 c κs = search needs
-
 returns-3 : tie.Need-returns-3
 returns-3 c =
     let s =
@@ -72,9 +57,6 @@ returns-3 c =
     let h = checked (c .before .before .before .before .before .before .before .before) in
     refusal ws _ _ _ _ _ 10 (k .result) _ _ (c .says3 .ensures) (λ z. omega arith)
     (judged-10 _ _ _ _ (h .sound) (h .grouped) (named (size ws) (k .result) _ (k .ensures) (c .before .if3 .taken)))
-
-says-requires-4 : tie.Need-says-requires-4
-says-requires-4 c κs = search needs
 
 returns-4 : tie.Need-returns-4
 returns-4 c =
@@ -93,15 +75,15 @@ pub judge-spec : {M : Type 1} → statement M
 judge-spec =
     tie.close
     (tie.spec
-    first-bad-record-requires
-    says-requires
+    (λ c κs. search needs)
+    (λ c κs. search needs)
     returns
-    first-group-fault-requires
-    says-requires-2
+    (λ c κs. search needs)
+    (λ c κs. search needs)
     returns-2
     fill-tables-requires
     first-wide-run-requires
-    says-requires-3
+    (λ c κs. search needs)
     returns-3
-    says-requires-4
+    (λ c κs. search needs)
     returns-4)

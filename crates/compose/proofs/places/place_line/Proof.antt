@@ -28,9 +28,6 @@ head c = c .before .before .before .before .before .before
 few : (c : tie.At-loop Inv-loop μ-loop) → c .loop .a < 256
 few c = omega (arith, turn-unit (start c .pre) (c .loop .inv) .unit, start c .pre .tabled .checked .few)
 
-no-gaps-requires : tie.Need-no-gaps-requires Inv-loop μ-loop
-no-gaps-requires c κs = search needs
-
 loop-holds : tie.Need-loop-holds Inv-loop μ-loop
 loop-holds c = rw (c .no-gaps .ensures) (line-start (c .before .before .before .pre))
 
@@ -112,7 +109,7 @@ place-line-spec =
     (tie.spec
     Inv-loop
     μ-loop
-    no-gaps-requires
+    (λ c κs. search needs)
     loop-holds
     place-unit-requires
     unit-advance-requires

@@ -18,30 +18,6 @@ Inv-loop ws units a line x places₀ records base first solid₀ k₀ places sol
 abbrev μ-loop : tie.MeasureT-loop
 μ-loop ws units a line x places₀ records base first solid₀ k₀ places solid k = records - k
 
-mul-records : tie.Need-mul-records Inv-loop μ-loop
-mul-records c = search needs
-
-mul-records-2 : tie.Need-mul-records-2 Inv-loop μ-loop
-mul-records-2 c = search needs
-
-element-copy-out-records : tie.Need-element-copy-out-records Inv-loop μ-loop
-element-copy-out-records c = search needs
-
-mul-base : tie.Need-mul-base Inv-loop μ-loop
-mul-base c = search needs
-
-add-base : tie.Need-add-base Inv-loop μ-loop
-add-base c = search needs
-
-mul-base-2 : tie.Need-mul-base-2 Inv-loop μ-loop
-mul-base-2 c = search needs
-
-element-copy-out-base : tie.Need-element-copy-out-base Inv-loop μ-loop
-element-copy-out-base c = search needs
-
-record-at-requires : tie.Need-record-at-requires Inv-loop μ-loop
-record-at-requires c κs = search needs
-
 loop-holds : tie.Need-loop-holds Inv-loop μ-loop
 loop-holds c = unit-start (c .before .before .before .before .before .pre)
 
@@ -87,9 +63,6 @@ add-solid c =
 add-k : tie.Need-add-k Inv-loop μ-loop
 add-k c = let t = turn (c .before .before .before .before .before .before .before) in omega arith
 
-loop-less : tie.Need-loop-less Inv-loop μ-loop
-loop-less c = search needs
-
 loop-again : tie.Need-loop-again Inv-loop μ-loop
 loop-again c =
     let d = c .before .before .before .before .before .before .before in
@@ -112,14 +85,14 @@ place-unit-spec =
     (tie.spec
     Inv-loop
     μ-loop
-    mul-records
-    mul-records-2
-    element-copy-out-records
-    mul-base
-    add-base
-    mul-base-2
-    element-copy-out-base
-    record-at-requires
+    (λ c. search needs)
+    (λ c. search needs)
+    (λ c. search needs)
+    (λ c. search needs)
+    (λ c. search needs)
+    (λ c. search needs)
+    (λ c. search needs)
+    (λ c κs. search needs)
     loop-holds
     cast-b
     add-b
@@ -129,7 +102,7 @@ place-unit-spec =
     record-at-requires-2
     add-solid
     add-k
-    loop-less
+    (λ c. search needs)
     loop-again
     same-length
     returns)

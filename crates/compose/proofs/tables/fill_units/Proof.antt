@@ -21,18 +21,6 @@ abbrev μ-loop : tie.MeasureT-loop
 loop-holds : tie.Need-loop-holds Inv-loop μ-loop
 loop-holds c = scan-start _ _
 
-sub-i : tie.Need-sub-i Inv-loop μ-loop
-sub-i c = search needs
-
-record-at-requires : tie.Need-record-at-requires Inv-loop μ-loop
-record-at-requires c κs = search needs
-
-same-group-requires : tie.Need-same-group-requires Inv-loop μ-loop
-same-group-requires c κs = search needs
-
-add-records : tie.Need-add-records Inv-loop μ-loop
-add-records c = search needs
-
 -- the bounds of the record that was read
 bounds : (c : tie.After-record-at Inv-loop μ-loop) → RecordBounds (recordOf (c .record-at .result))
 bounds c =
@@ -44,12 +32,6 @@ add-base c = omega (arith, bounds (c .before .before .before) .advance)
 
 group-advance-requires : tie.Need-group-advance-requires Inv-loop μ-loop
 group-advance-requires c κs = let b = bounds (c .before .before .before) in (b .ruby, b .size)
-
-put-row-requires : tie.Need-put-row-requires Inv-loop μ-loop
-put-row-requires c κs = search needs
-
-loop-less : tie.Need-loop-less Inv-loop μ-loop
-loop-less c = search needs
 
 -- the sums, where the arms of the branch meet
 summed : (c : tie.Joined1 Inv-loop μ-loop) →
@@ -86,13 +68,13 @@ fill-units-spec =
     Inv-loop
     μ-loop
     loop-holds
-    sub-i
-    record-at-requires
-    same-group-requires
-    add-records
+    (λ c. search needs)
+    (λ c κs. search needs)
+    (λ c κs. search needs)
+    (λ c. search needs)
     add-base
     group-advance-requires
-    put-row-requires
-    loop-less
+    (λ c κs. search needs)
+    (λ c. search needs)
     loop-again
     returns)

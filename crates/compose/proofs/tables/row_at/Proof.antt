@@ -9,35 +9,11 @@ use Rattle.compose.proofs.RunScan.{row-bound}
 use Rattle.compose.proofs.tables.row_at.Statement.{statement}
 use Rattle.compose.proofs.tables.row_at.Tie as tie
 
-mul-records : tie.Need-mul-records
-mul-records c = search needs
-
-mul-records-2 : tie.Need-mul-records-2
-mul-records-2 c = search needs
-
-element-copy-out-records : tie.Need-element-copy-out-records
-element-copy-out-records c = search needs
-
-mul-advance : tie.Need-mul-advance
-mul-advance c = search needs
-
-add-advance : tie.Need-add-advance
-add-advance c = search needs
-
-mul-advance-2 : tie.Need-mul-advance-2
-mul-advance-2 c = search needs
-
-element-copy-out-advance : tie.Need-element-copy-out-advance
-element-copy-out-advance c = search needs
-
 cast-next : tie.Need-cast-next
 cast-next c = omega (arith, unit (c .before .before .before .pre) .few)
 
 add-next : tie.Need-add-next
 add-next c = omega (arith, unit (c .before .before .before .pre) .few)
-
-no-gaps-requires : tie.Need-no-gaps-requires
-no-gaps-requires c κs = search needs
 
 returns : tie.Need-returns
 returns c =
@@ -48,18 +24,6 @@ returns c =
       run = row-last p
           (k .if1 .taken);
     }
-
-side-at-requires : tie.Need-side-at-requires
-side-at-requires c κs = search needs
-
-side-at-requires-2 : tie.Need-side-at-requires-2
-side-at-requires-2 c κs = search needs
-
-break-forbidden-requires : tie.Need-break-forbidden-requires
-break-forbidden-requires c κs = search needs
-
-gap-between-requires : tie.Need-gap-between-requires
-gap-between-requires c κs = search needs
 
 -- the bounds of the gap, and of the next unit's row
 gap-between-bounds : (c : tie.After-gap-between) → GapBounds (gapFrom (c .gap-between .result))
@@ -80,15 +44,6 @@ later c =
 least-of-requires : tie.Need-least-of-requires
 least-of-requires c κs = gap-between-bounds c .shrink
 
-mul-a : tie.Need-mul-a
-mul-a c = search needs
-
-mul-width : tie.Need-mul-width
-mul-width c = search needs
-
-element-copy-out-width : tie.Need-element-copy-out-width
-element-copy-out-width c = search needs
-
 add-width : tie.Need-add-width
 add-width c =
     let m = c .before .before .before in
@@ -100,29 +55,11 @@ add-width-2 c =
     let p = m .before .before .before .before .before .before .before .before .pre in
     omega (arith, unit p .light, gap-between-bounds m .space, later m .light, c .before .before .least-of .ensures)
 
-add-total : tie.Need-add-total
-add-total c = search needs
-
-mul-total : tie.Need-mul-total
-mul-total c = search needs
-
-element-copy-out-total : tie.Need-element-copy-out-total
-element-copy-out-total c = search needs
-
 add-total-2 : tie.Need-add-total-2
 add-total-2 c =
     let m = c .before .before .before .before in
     let p = m .before .before .before .before .before .before .before .before .pre in
     omega (arith, unit p .few, later m .few)
-
-add-last : tie.Need-add-last
-add-last c = search needs
-
-mul-last : tie.Need-mul-last
-mul-last c = search needs
-
-element-copy-out-last : tie.Need-element-copy-out-last
-element-copy-out-last c = search needs
 
 returns-2 : tie.Need-returns-2
 returns-2 c =
@@ -162,33 +99,33 @@ pub row-at-spec : {M : Type 1} → statement M
 row-at-spec =
     tie.close
     (tie.spec
-    mul-records
-    mul-records-2
-    element-copy-out-records
-    mul-advance
-    add-advance
-    mul-advance-2
-    element-copy-out-advance
+    (λ c. search needs)
+    (λ c. search needs)
+    (λ c. search needs)
+    (λ c. search needs)
+    (λ c. search needs)
+    (λ c. search needs)
+    (λ c. search needs)
     cast-next
     add-next
-    no-gaps-requires
+    (λ c κs. search needs)
     returns
-    side-at-requires
-    side-at-requires-2
-    break-forbidden-requires
-    gap-between-requires
+    (λ c κs. search needs)
+    (λ c κs. search needs)
+    (λ c κs. search needs)
+    (λ c κs. search needs)
     least-of-requires
-    mul-a
-    mul-width
-    element-copy-out-width
+    (λ c. search needs)
+    (λ c. search needs)
+    (λ c. search needs)
     add-width
     add-width-2
-    add-total
-    mul-total
-    element-copy-out-total
+    (λ c. search needs)
+    (λ c. search needs)
+    (λ c. search needs)
     add-total-2
-    add-last
-    mul-last
-    element-copy-out-last
+    (λ c. search needs)
+    (λ c. search needs)
+    (λ c. search needs)
     returns-2
     returns-3)
