@@ -17,7 +17,7 @@ use Rattle.rules.specs.Adjustment.{compose}
 use Rattle.rules.specs.Refusals.{says, judged}
 use Rattle.rules.proofs.Facts.{tested, some-none, some-same}
 use Rattle.rules.proofs.Cuts.{cut-joined, joined-append}
-use Rattle.rules.proofs.Breaking.{counts-append, place-of-10}
+use Rattle.rules.proofs.NoBreaking.{counts-append, place-of-10}
 use Rattle.rules.proofs.Lengths.{counts-units, length-linesOf, composed-few}
 use Rattle.rules.proofs.Words.{length-records}
 use Rattle.compose.specs.Paragraph.{size, paragraph, placeOr}

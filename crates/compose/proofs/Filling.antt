@@ -1,92 +1,25 @@
--- The loops over a paragraph's runs, as steps: what is left from a run on gives what the whole paragraph gives.
+-- The loop that breaks lines, as steps: what is left from a run on gives what the whole paragraph gives.
 -- Assumes nothing.
 use mathlib.Core.Path.{_≡_, refl, ap, sym, _∙_}
-use Prim.Native.Nat.{ℕ, zero, suc, _+_, _*_, _-_, _≤_, _<_}
+use Prim.Native.Nat.{ℕ, suc, _+_, _-_, _≤_, _<_}
 use native.Mathlib.Omega.{arith}
-use native.Mathlib.Nat.{sub-zero}
 use native.Mathlib.Numerals.{add-one}
 use mathlib.Core.List.{List, [], _∷_, _++_, append-assoc, append-nil}
-use mathlib.Core.Logic.{inl, inr}
-use lib.ListN.{length, take, getD, set, length-set}
+use lib.ListN.{length, take, set, length-set}
 use lib.Seq.{take-suc-set, length-take-le}
 use borrow.Author.Tests.{le-leb, lt-leb}
 use Rattle.rules.specs.Basics.{Run, whole, then}
-use Rattle.rules.specs.Groups.{TextUnit, units, counts}
-use Rattle.rules.specs.Breaks.{gap as gapOf, least, width as widthOf, runs, wideRun, noBreaking, filled, breaking}
+use Rattle.rules.specs.Groups.{TextUnit, counts}
+use Rattle.rules.specs.Breaks.{gap as gapOf, least, width as widthOf, runs, filled, breaking}
 use Rattle.rules.specs.Meanings.{lastIn}
-use Rattle.rules.proofs.Breaking.{counts-append}
+use Rattle.rules.proofs.NoBreaking.{counts-append}
 use Rattle.rules.proofs.Cuts.{last-append}
 use Rattle.rules.proofs.Widths.{width-then}
-use Rattle.rules.proofs.Facts.{ordered}
-use Rattle.compose.specs.Paragraph.{size, paragraph, from, unitAt, runAt, placeOr, Checked}
-use Rattle.compose.specs.Tables.{RunTable, AllNarrow}
+use Rattle.compose.specs.Paragraph.{size, from, unitAt, runAt}
 use Rattle.compose.specs.Lines.{firsts, broken, Broken}
-use Rattle.compose.proofs.Walk.{runs-end}
-use Rattle.compose.proofs.RunRows.{RunFacts, row-facts}
-
--- the paragraph's units are those from its first record on
-from-start : (ws : List ℕ) → from ws 0 ≡ units (paragraph ws)
-unfolding from
-from-start ws = rw sub-zero
-
--- Answer 10 --------------------------------------------------------------------------------------------------------
-
--- the runs before record i fit the measure m, and the next one starts at `start`
-pub record Narrow (ws : List ℕ) (m x i start : ℕ) : Type 0 where
-  pub low : start ≤ x
-  pub same : wideRun m start i (runs (from ws i)) ≡ noBreaking m x (units (paragraph ws))
-
--- the place that answer 10 names, or the number of records
-abbrev widePlace : List ℕ → ℕ → ℕ → ℕ
-widePlace ws m x = placeOr (size ws) (noBreaking m x (units (paragraph ws)))
-
-module _ {ws : List ℕ} {m x : ℕ} where
-  pub narrow-start : Narrow ws m x 0 x
-  unfolding noBreaking
-  narrow-start = record { low = omega arith; same = rw from-start }
-
-  pub narrow-end : {i start : ℕ} → size ws ≤ i → Narrow ws m x i start → size ws ≡ widePlace ws m x
-  unfolding wideRun
-  narrow-end {i} h s = rw (← s .same, runs-end ws i h)
-
-  module _ {i start w r g : ℕ} (f : RunFacts ws i w r g) (s : Narrow ws m x i start) where
-    left : wideRun m start i (runAt ws i ∷ runs (from ws (i + r))) ≡ noBreaking m x (units (paragraph ws))
-    left = rw (← f .rest) (s .same)
-
-    pub narrow-wide : m < start + w → i ≡ widePlace ws m x
-    unfolding wideRun
-    narrow-wide b = rw (← left, wideRun, lt-leb _ _ (rw (f .is-width) at b))
-
-    pub narrow-more : start + w ≤ m → Narrow ws m x (i + r) 0
-    unfolding wideRun
-    narrow-more b =
-        record { low = omega arith; same = rw (wideRun, le-leb _ _ (rw (f .is-width) at b), ← f .is-records) at left }
-
--- where every row fits, every run does: at most n records are left from record i on
-rows-narrow : {ws : List ℕ} {m x : ℕ} (t : List ℕ) → Checked ws → RunTable ws t →
-    ((i : ℕ) → i < size ws → getD t (3 * i) 0 ≤ m) →
-    (n i : ℕ) → size ws - i ≤ n → Narrow ws m x i 0 → size ws ≡ widePlace ws m x
-rows-narrow t k rows f zero i e s = narrow-end (omega arith) s
-rows-narrow {ws} {m} {x} t k rows f (suc n) i e s =
-    elim (ordered i (size ws)) [
-      | inl h ↦
-          let r = row-facts t k rows i h in
-          rows-narrow t k rows f n (i + getD t (3 * i + 1) 0) (omega (arith, r .some))
-          (narrow-more r s (omega (arith, f i h)))
-      | inr h ↦ narrow-end h s
-    ]
-
-pub all-fit : {ws : List ℕ} {m x : ℕ} (t : List ℕ) → Checked ws → RunTable ws t → AllNarrow ws t m x →
-    size ws ≡ widePlace ws m x
-all-fit {ws} {m} {x} t k rows a =
-    elim (ordered 0 (size ws)) [
-      | inl h ↦
-          let s = narrow-more (row-facts t k rows 0 h) narrow-start (a .first) in
-          rows-narrow t k rows (a .rows) (size ws) (0 + getD t (3 * 0 + 1) 0) (omega arith) s
-      | inr h ↦ narrow-end h narrow-start
-    ]
-
--- The breaking -----------------------------------------------------------------------------------------------------
+use Rattle.compose.proofs.RunWalk.{runs-end}
+use Rattle.compose.proofs.RunRows.{RunFacts}
+use Rattle.compose.proofs.Searching.{from-start}
 
 length-firsts : (i : ℕ) (ls : List (Run TextUnit)) → length (firsts i ls) ≡ length ls
 unfolding firsts

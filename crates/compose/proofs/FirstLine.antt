@@ -20,7 +20,8 @@ use Rattle.rules.proofs.Facts.{ordered, nil-cons}
 use Rattle.compose.specs.Paragraph.{size, from}
 use Rattle.compose.specs.Lines.{firsts, lineAt}
 use Rattle.compose.specs.Adjusted.{wordsOf}
-use Rattle.compose.proofs.Walk.{unit-step, from-end, from-after}
+use Rattle.compose.proofs.Walk.{unit-step, from-end}
+use Rattle.compose.proofs.RunWalk.{from-after}
 use Rattle.compose.proofs.Stretches.{line-is}
 
 -- records --------------------------------------------------------------------------------------------------------

@@ -5,7 +5,7 @@ use native.Mathlib.Omega.{arith}
 use native.Mathlib.Nat.{mul-le-mul, mul-le-mul-left, mul-comm, div-le-of-le-mul}
 use Rattle.rules.specs.Breaks.{Gap}
 use Rattle.rules.specs.Adjustment.{Amounts, plus, nothing}
-use Rattle.rules.proofs.Limits.{GapBounds}
+use Rattle.rules.proofs.GroupLimits.{GapBounds}
 use Rattle.rules.proofs.Shares.{share-up, share-cap, none-yet}
 use Rattle.compose.specs.Adjusted.{PartOf, floors, spaceBetween, Between}
 

@@ -2,6 +2,7 @@
 pub mod Answers
 pub mod Composed
 pub mod Faults
+pub mod Searching
 pub mod Filling
 pub mod FirstLine
 pub mod Floors
@@ -19,3 +20,4 @@ pub mod Sums
 pub mod UnitPlaces
 pub mod UnitScan
 pub mod Walk
+pub mod RunWalk

@@ -9,11 +9,13 @@ use Rattle.rules.specs.Records.{recAt, records}
 use Rattle.rules.specs.Groups.{sameGroup, units, count, advances, baseTotal, advance, sideBy}
 use Rattle.rules.specs.Breaks.{bound, smallest, width}
 use Rattle.rules.proofs.Facts.{tested, ordered}
-use Rattle.rules.proofs.Limits.{RecordBounds, record-bounds, records-ok, headCount, units-few, advance-bound-of}
-use Rattle.rules.proofs.Limits.{GapBounds, gap-bounds}
+use Rattle.rules.proofs.Limits.{RecordBounds, record-bounds, records-ok}
+use Rattle.rules.proofs.GroupLimits.{headCount, units-few, advance-bound-of}
+use Rattle.rules.proofs.GroupLimits.{GapBounds, gap-bounds}
 use Rattle.rules.proofs.Words.{drop-records}
 use Rattle.compose.specs.Paragraph.{size, paragraph, from, unitAt, nextAt, gapAfter, runAt, Checked}
-use Rattle.compose.proofs.Walk.{records-from, unit-step, unit-last, unit-more, run-last, run-more, run-width}
+use Rattle.compose.proofs.Walk.{records-from, unit-step, unit-last, unit-more}
+use Rattle.compose.proofs.RunWalk.{run-last, run-more, run-width}
 
 module _ (ws : List ℕ) (k : Checked ws) where
   dropped : (i : ℕ) → i < size ws → drop i (paragraph ws) ≡ records ws i (size ws - i)

@@ -9,7 +9,7 @@ use Rattle.rules.specs.Groups.{count, counts, advance, baseOffsets}
 use Rattle.rules.specs.Breaks.{Gap, gap}
 use Rattle.rules.specs.Adjustment.{Amounts, plus, nothing, totals, adjusted, placed, ending}
 use Rattle.rules.specs.Sheet.{placesOf}
-use Rattle.rules.proofs.Limits.{GapBounds}
+use Rattle.rules.proofs.GroupLimits.{GapBounds}
 use Rattle.compose.specs.Paragraph.{size, unitAt, nextAt}
 use Rattle.compose.specs.Tables.{gapIn}
 use Rattle.compose.specs.Lines.{lineAt}

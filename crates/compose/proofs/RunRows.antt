@@ -13,7 +13,7 @@ use Rattle.rules.specs.Meanings.{lastIn}
 use Rattle.rules.proofs.Facts.{tested, ordered}
 use Rattle.compose.specs.Paragraph.{size, from, unitAt, nextAt, gapAfter, runAt, runEnd, Checked}
 use Rattle.compose.specs.Tables.{RunTable}
-use Rattle.compose.proofs.Walk.{run-step, run-more, run-records, run-lastIn, gap-is}
+use Rattle.compose.proofs.RunWalk.{run-step, run-more, run-records, run-lastIn, gap-is}
 use Rattle.compose.proofs.Limits.{gap-limits, run-limit}
 
 -- the least of the gap after the run that starts with record i

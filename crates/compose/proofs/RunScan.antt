@@ -11,11 +11,12 @@ use Rattle.rules.specs.Records.{recAt}
 use Rattle.rules.specs.Groups.{Side, sideBy, count, counts, advance}
 use Rattle.rules.specs.Breaks.{Gap, gap, gapOf, forbidden, bound, least, smallest, width}
 use Rattle.rules.specs.Meanings.{lastIn}
-use Rattle.rules.proofs.Limits.{GapBounds}
+use Rattle.rules.proofs.GroupLimits.{GapBounds}
 use Rattle.compose.specs.Paragraph.{size, unitAt, nextAt, gapAfter, runAt, runEnd}
 use Rattle.compose.specs.Tables.{RunRowOf, RunRow, RunsFrom, RunsAfter}
-use Rattle.compose.proofs.Walk.{unit-step, run-step, run-last, run-more}
-use Rattle.compose.proofs.Walk.{run-width, run-records, run-lastIn, gap-is, bound-is}
+use Rattle.compose.proofs.Walk.{unit-step}
+use Rattle.compose.proofs.RunWalk.{run-step, run-last, run-more}
+use Rattle.compose.proofs.RunWalk.{run-width, run-records, run-lastIn, gap-is, bound-is}
 use Rattle.compose.proofs.Limits.{gap-limits, run-limit}
 use Rattle.compose.proofs.UnitScan.{UnitWords, unit-words}
 use Rattle.compose.proofs.Stored.{row-stored, row-kept, one-more}

@@ -10,13 +10,13 @@ use Rattle.rules.specs.Groups.{advance}
 use Rattle.rules.specs.Breaks.{Gap, gap}
 use Rattle.rules.specs.Adjustment.{plus, nothing, totals, gapsOf, unitAdvances}
 use Rattle.rules.specs.Values.{gapFrom}
-use Rattle.rules.proofs.Limits.{GapBounds}
+use Rattle.rules.proofs.GroupLimits.{GapBounds}
 use Rattle.compose.specs.Paragraph.{size, unitAt, nextAt}
 use Rattle.compose.specs.Tables.{gapIn}
 use Rattle.compose.specs.Lines.{lineAt, Tabled}
 use Rattle.compose.specs.Adjusted.{LineToSum, SumsOf, Within, PartOf}
 use Rattle.compose.specs.declared.adjustment.Sums.{Sums}
-use Rattle.compose.proofs.Walk.{gap-is}
+use Rattle.compose.proofs.RunWalk.{gap-is}
 use Rattle.compose.proofs.Limits.{unit-advance, gap-limits}
 use Rattle.compose.proofs.Stretches.{line-more, line-last}
 

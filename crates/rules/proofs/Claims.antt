@@ -17,11 +17,13 @@ use Rattle.rules.specs.Meanings.{GapAt, WithinLimits, FirstStageFull}
 use Rattle.rules.proofs.Facts.{some-none}
 use Rattle.rules.proofs.Cases.{rows, right, cases-hold}
 use Rattle.rules.proofs.Cuts.{cut-maximal, maximal-only, boundary-exact, units-one}
-use Rattle.rules.proofs.Breaking.{breaking-exists, due-exactly, place-of-10, breaking-choice, lines-fit}
-use Rattle.rules.proofs.Breaking.{lines-longest}
+use Rattle.rules.proofs.NoBreaking.{breaking-exists, due-exactly, place-of-10}
+use Rattle.rules.proofs.Breaking.{breaking-choice, lines-fit}
+use Rattle.rules.proofs.LongestLines.{lines-longest}
 use Rattle.rules.proofs.Unique.{only-lines}
-use Rattle.rules.proofs.Ends.{ends-within, wide-ends, flush-ends, short-ends, final-ends, within-limits}
-use Rattle.rules.proofs.Ends.{first-stage-full}
+use Rattle.rules.proofs.Ends.{ends-within, wide-ends, flush-ends, short-ends, final-ends}
+use Rattle.rules.proofs.GapLimits.{within-limits}
+use Rattle.rules.proofs.GapLimits.{first-stage-full}
 use Rattle.rules.proofs.GroupRows.{base-within, ruby-within}
 
 -- Units ------------------------------------------------------------------------------------------------------------

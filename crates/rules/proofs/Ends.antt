@@ -1,22 +1,20 @@
--- Where a line ends, by its kind, and what its gaps come to. Assumes nothing.
+-- Where a line ends, by its kind. Assumes nothing.
 use mathlib.Core.Path.{_≡_, refl, sym}
 use Prim.Native.Nat.{ℕ, zero, suc, _+_, _*_, _-_, _/_, _≤_, _<_}
 use native.Mathlib.Omega.{arith}
-use native.Mathlib.Nat.{mul-div-left, div-zero, zero-mul, zero-div, add-zero, sub-self}
+use native.Mathlib.Nat.{mul-div-left, div-zero, zero-mul, zero-div}
 use mathlib.Core.Bool.{Bool, true, false, cond}
-use mathlib.Core.List.{List}
 use mathlib.Core.Logic.{inl, inr}
 use lib.Dec.{ltb, eqb}
 use borrow.Author.Tests.{ltb-true, ltb-false, eqb-true, eqb-false}
 use Rattle.rules.specs.Basics.{Run}
 use Rattle.rules.specs.Groups.{TextUnit}
 use Rattle.rules.specs.Breaks.{Gap, width}
-use Rattle.rules.specs.Adjustment.{Amounts, amounts, amountsOf, share, nothing, totals, gapsOf, natural}
+use Rattle.rules.specs.Adjustment.{Amounts, amounts, amountsOf, nothing, gapsOf, natural}
 use Rattle.rules.specs.Adjustment.{kindOf, lineOf}
-use Rattle.rules.specs.Meanings.{GapAt, gap-here, gap-later, WithinLimits, FirstStageFull}
 use Rattle.rules.proofs.Facts.{tested}
 use Rattle.rules.proofs.Widths.{natural-smallest}
-use Rattle.rules.proofs.Shares.{share-cap, shared-out, full-share, none-yet, ending-sum}
+use Rattle.rules.proofs.Shares.{shared-out, none-yet, ending-sum}
 
 -- how far a line is too narrow for its measure: a final line is taken as it is
 abbrev narrow : ℕ → ℕ → Bool → Run TextUnit → ℕ
@@ -177,65 +175,3 @@ short-ends m x false l h k =
           ]
       | inr p ↦ absurd (two-one (sym (rw p at k)))
     ]
-
--- Gaps -------------------------------------------------------------------------------------------------------------
-
-no-weight : (e c s g : ℕ) → g ≡ 0 → share e c s (s + g) ≡ 0
-no-weight e c s g z = rw (z, add-zero, sub-self)
-
--- the gaps before one, and the gap, are no more than all
-gap-shrink : {u : TextUnit} {us : List TextUnit} {s g : Gap} → GapAt u us s g →
-    s .shrink₁ + g .shrink₁ ≤ totals u us .shrink₁
-unfolding totals
-gap-shrink gap-here = omega arith
-gap-shrink (gap-later h) = omega (arith, gap-shrink h)
-
-gap-stretch : {u : TextUnit} {us : List TextUnit} {s g : Gap} → GapAt u us s g →
-    s .stretch₁ + g .stretch₁ ≤ totals u us .stretch₁
-unfolding totals
-gap-stretch gap-here = omega arith
-gap-stretch (gap-later h) = omega (arith, gap-stretch h)
-
-not-below : (space a b c d p q : ℕ) → a ≤ p → b ≤ q → space - p - q ≤ (space - a - b) + c + d
-not-below space a b c d p q h k = omega arith
-
-not-above : (space a b c d p : ℕ) → c ≤ p → d ≡ 0 → (space - a - b) + c + d ≤ space + p
-not-above space a b c d p h k = omega arith
-
-share-limit : (e c s g : ℕ) → e ≤ c → share e c s (s + g) ≤ g
-share-limit e c s g h = omega (arith, share-cap e c s g h)
-
-share-of-none : (e c s t : ℕ) → e ≡ 0 → share e c s t ≡ 0
-share-of-none e c s t z = rw (z, zero-mul, zero-mul, sub-self)
-
-pub within-limits : (m x : ℕ) (final : Bool) (l : Run TextUnit) → x + width l ≤ m → (s g : Gap) →
-    GapAt (l .first) (l .rest) s g →
-    WithinLimits (amountsOf m x final l) (gapsOf l) s g
-within-limits m x final l h s g at =
-    let c = gapsOf l in
-    let e = amountsOf m x final l in
-    let t = taken m x final l h in
-    let a = share-limit (e .shrink₁) (c .shrink₁) (s .shrink₁) (g .shrink₁) (t .shrink₁) in
-    let b = share-limit (e .shrink₂) (c .shrink₂) (s .shrink₂) (g .shrink₂) (t .shrink₂) in
-    let d = share-limit (e .stretch₁) (c .stretch₁) (s .stretch₁) (g .stretch₁) (t .stretch₁) in
-    record {
-      shrink₁ = a;
-      shrink₂ = b;
-      stretch₁ = d;
-      stretch₂ = λ z. no-weight (e .stretch₂) (c .stretch₂) (s .stretch₂) (g .stretch₂) z;
-      low = not-below (g .space) _ _ _ _ _ _ a b;
-      high =
-          λ z. not-above (g .space) _ _ _ _ _ d
-          (share-of-none (e .stretch₂) (c .stretch₂) (s .stretch₂) (s .stretch₂ + g .stretch₂) z);
-    }
-
-pub first-stage-full : (m x : ℕ) (final : Bool) (l : Run TextUnit) → x + width l ≤ m → (s g : Gap) →
-    GapAt (l .first) (l .rest) s g →
-    FirstStageFull (amountsOf m x final l) (gapsOf l) s g
-first-stage-full m x final l h s g at =
-    let t = taken m x final l h in
-    record {
-      shrink = λ p. rw (t .full-shrink p) (full-share (gapsOf l .shrink₁) (s .shrink₁) (g .shrink₁) (gap-shrink at));
-      stretch =
-          λ p. rw (t .full-stretch p) (full-share (gapsOf l .stretch₁) (s .stretch₁) (g .stretch₁) (gap-stretch at));
-    }

@@ -12,7 +12,8 @@ use Rattle.rules.specs.Breaks.{Gap, gap, runs, breaking}
 use Rattle.rules.specs.Adjustment.{Amounts, Line, plus, adjusted, placed, lineOf, linesOf, compose, isEmpty}
 use Rattle.rules.specs.Sheet.{placesOf, placeWords, lineWords}
 use Rattle.rules.proofs.Cuts.{cut-joined}
-use Rattle.rules.proofs.Breaking.{counts-append, breaking-choice}
+use Rattle.rules.proofs.NoBreaking.{counts-append}
+use Rattle.rules.proofs.Breaking.{breaking-choice}
 
 length-offsets : (base ruby s n k solid : ℕ) (rs : List Rec) → length (offsets base ruby s n k solid rs) ≡ length rs
 unfolding offsets

@@ -5,11 +5,15 @@ pub mod Cases
 pub mod Cuts
 pub mod Widths
 pub mod Breaking
+pub mod NoBreaking
+pub mod LongestLines
 pub mod Unique
 pub mod Shares
 pub mod Ends
+pub mod GapLimits
 pub mod GroupRows
 pub mod Limits
+pub mod GroupLimits
 pub mod Words
 pub mod Lengths
 pub mod Zeros

@@ -5,7 +5,8 @@ use native.Mathlib.Omega.{arith}
 use denote.Ref.{now}
 use borrow.Author.Needs.{needs}
 use Rattle.compose.proofs.RunRows.{RowFacts, row-facts}
-use Rattle.compose.proofs.Filling.{Due, Open, due-start, due-open, due-end, open-more, open-over, open-end}
+use Rattle.compose.proofs.Filling.{Due, Open, due-start}
+use Rattle.compose.proofs.Filling.{due-open, due-end, open-more, open-over, open-end}
 use Rattle.compose.proofs.breaking.break_lines.Statement.{statement}
 use Rattle.compose.proofs.breaking.break_lines.Tie as tie
 

@@ -4,7 +4,7 @@ use native.Mathlib.Omega.{arith}
 use denote.Ref.{now}
 use borrow.Author.Needs.{needs}
 use Rattle.compose.proofs.RunRows.{RowFacts, row-facts}
-use Rattle.compose.proofs.Filling.{Narrow, narrow-start, narrow-end, narrow-wide, narrow-more, all-fit}
+use Rattle.compose.proofs.Searching.{Narrow, narrow-start, narrow-end, narrow-wide, narrow-more, all-fit}
 use Rattle.compose.proofs.breaking.first_wide_run.Statement.{statement}
 use Rattle.compose.proofs.breaking.first_wide_run.Tie as tie
 

@@ -3,7 +3,7 @@ use mathlib.Core.Path.{sym, _∙_}
 use native.Mathlib.Omega.{arith}
 use borrow.Author.Needs.{needs}
 use Rattle.rules.specs.Values.{gapFrom}
-use Rattle.rules.proofs.Limits.{GapBounds}
+use Rattle.rules.proofs.GroupLimits.{GapBounds}
 use Rattle.compose.proofs.RunScan.{unit, row-last, gap-found, gap-words, RunWords, run-words, row-apart}
 use Rattle.compose.proofs.RunScan.{row-bound}
 use Rattle.compose.proofs.tables.row_at.Statement.{statement}
