@@ -83,7 +83,8 @@ module _ (t : List ℕ) (i : ℕ) (g : Gap) where
       }
 
 -- a table that is filled from its end: with row i the rows from row i on hold what they are to hold
-pub one-more : {P : ℕ → Type 0} (n i : ℕ) → P i → ((k : ℕ) → i + 1 ≤ k → k < n → P k) → (k : ℕ) → i ≤ k → k < n → P k
+pub one-more : {P : ℕ → Type 0} (n i : ℕ) → P i → ((k : ℕ) → i + 1 ≤ k → k < n → P k) →
+    (k : ℕ) → i ≤ k → k < n → P k
 one-more {P} n i p f k h g =
     elim (ordered i k) [
       | inl l ↦ f k (omega arith) g

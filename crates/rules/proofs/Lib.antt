@@ -1,6 +1,7 @@
 -- Laws of the rules' definitions and of the leaf functions. `Claims` states what is proved of the rules, in reading
 -- order.
 pub mod Facts
+pub mod Judged
 pub mod Cases
 pub mod Cuts
 pub mod Widths

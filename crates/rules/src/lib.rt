@@ -3,6 +3,7 @@ mod basics;
 mod breaks;
 mod groups;
 mod records;
+mod sheet;
 mod space;
 
 pub use basics::over;
@@ -16,3 +17,5 @@ pub use groups::group_advance;
 pub use groups::ruby_place;
 pub use records::Record;
 pub use records::record_ok;
+pub use sheet::limits_ok;
+pub use sheet::slot_limits_ok;

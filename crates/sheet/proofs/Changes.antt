@@ -17,6 +17,7 @@ use Rattle.rules.specs.Refusals.{Answer, says, Outcome, orElse, judged, edited,
 use Rattle.rules.specs.Refusals.{callRows, called, edit, readNumber, readWords}
 use Rattle.rules.specs.Meanings.{Choice, Fits, FirstWide}
 use Rattle.rules.proofs.Claims.{no-10-exactly, answer-10}
+use Rattle.rules.proofs.Judged.{judged-0, judged-10}
 use Rattle.sheet.specs.Meanings.{NoEarlier, Spliced}
 use Rattle.sheet.proofs.Tables.{same-number, lacking, passed, under-table}
 use Rattle.sheet.proofs.Reading.{number-0, read-slot}
@@ -25,7 +26,7 @@ use Rattle.sheet.proofs.Words.{slot-clinic, slot-line-count, slot-lines
 use Rattle.sheet.proofs.Alike.{called-alike}
 use Rattle.sheet.proofs.Frame.{Edited, entering, refusing, edit-cases, edit-entering, edit-length}
 use Rattle.sheet.proofs.Frame.{room, length-outcome, slot-with}
-use Rattle.sheet.proofs.SlotChanges.{judged-0, judged-10, slot-judged, accepted-few}
+use Rattle.sheet.proofs.SlotChanges.{slot-judged, accepted-few}
 use Rattle.sheet.proofs.SlotChanges.{slot-accepted, slot-spliced}
 
 module _ (ws : List ℕ) (caller k place deleted : ℕ) (inserted : List ℕ) where

@@ -88,7 +88,8 @@ restarts n before cs ms xs after b z =
 
 -- Answer 4 ----------------------------------------------------------------------------------------------------------
 
-else-not-4 : (n : ℕ) (o : Option ℕ) (a : Answer) → (n ≡ 4 → ⊥) → (a .number ≡ 4 → ⊥) → orElse n o a .number ≡ 4 → ⊥
+else-not-4 : (n : ℕ) (o : Option ℕ) (a : Answer) → (n ≡ 4 → ⊥) → (a .number ≡ 4 → ⊥) →
+    orElse n o a .number ≡ 4 → ⊥
 else-not-4 n none a p q = q
 else-not-4 n (some i) a p q = p
 

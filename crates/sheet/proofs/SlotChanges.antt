@@ -4,51 +4,21 @@ use Prim.Native.Nat.{ℕ, _+_, _-_, _≤_}
 use native.Mathlib.Omega.{arith}
 use mathlib.Core.Bool.{true}
 use mathlib.Core.List.{List}
-use mathlib.Core.Option.{Option, none, some}
 use lib.Dec.{ltb}
 use lib.ListN.{length, drop}
 use borrow.Author.Tests.{eq-eqb, ltb-false}
-use Rattle.rules.specs.Records.{Rec, badRecord}
-use Rattle.rules.specs.Groups.{groupFault, units}
-use Rattle.rules.specs.Breaks.{noBreaking}
+use Rattle.rules.specs.Records.{Rec}
+use Rattle.rules.specs.Groups.{units}
 use Rattle.rules.specs.Adjustment.{compose}
 use Rattle.rules.specs.Sheet.{slotWords, clinicOf, measureOf, indentOf, countOf, recordsOf}
-use Rattle.rules.specs.Refusals.{Answer, says, Outcome, orElse, judged, edited, slotRows, editSlot}
+use Rattle.rules.specs.Refusals.{Answer, says, Outcome, judged, edited, slotRows, editSlot}
 use Rattle.sheet.specs.Meanings.{Spliced}
 use Rattle.sheet.proofs.Tables.{same-number, lacking, passed, under-table}
 use Rattle.sheet.proofs.Lengths.{or-right}
 use Rattle.sheet.proofs.Words.{slot-records}
 use Rattle.rules.proofs.Words.{length-records}
 use Rattle.sheet.proofs.Frame.{edited-few}
-
--- Judged ------------------------------------------------------------------------------------------------------------
-
-abbrev by : Option ℕ → Option ℕ → Option ℕ → ℕ → Answer
-by p q r n = orElse 8 p (orElse 9 q (orElse 10 r (says 0 n)))
-
-by-0 : (p q r : Option ℕ) (n : ℕ) → by p q r n .number ≡ 0 → (r ≡ none) × (by p q r n ≡ says 0 n)
-by-0 none none none n e = (refl, refl)
-by-0 none none (some i) n e = absurd (omega (arith, e))
-by-0 none (some i) r n e = absurd (omega (arith, e))
-by-0 (some i) q r n e = absurd (omega (arith, e))
-
-by-10 : (p q r : Option ℕ) (n : ℕ) → by p q r n .number ≡ 10 → r ≡ some (by p q r n .place)
-by-10 none none none n e = absurd (omega (arith, e))
-by-10 none none (some i) n e = refl
-by-10 none (some i) r n e = absurd (omega (arith, e))
-by-10 (some i) q r n e = absurd (omega (arith, e))
-
-module _ (m x : ℕ) (rs : List Rec) where
-  pub judged-0 : judged m x rs .number ≡ 0 →
-      (noBreaking m x (units rs) ≡ none) × (judged m x rs ≡ says 0 (length (compose m x (units rs))))
-  unfolding judged
-  judged-0 e = by-0 (badRecord 0 rs) (groupFault rs) _ _ e
-
-  pub judged-10 : judged m x rs .number ≡ 10 → noBreaking m x (units rs) ≡ some (judged m x rs .place)
-  unfolding judged
-  judged-10 e = by-10 (badRecord 0 rs) (groupFault rs) _ _ e
-
--- One slot ----------------------------------------------------------------------------------------------------------
+use Rattle.rules.proofs.Judged.{judged-0}
 
 module _ (s : List ℕ) (place deleted : ℕ) (inserted : List ℕ) where
   abbrev done : Outcome

@@ -1,20 +1,14 @@
 // Set-up: every slot empty, with its clinic, measure and indent.
 use crate::Answer;
 use crate::slot_count;
+use rules::slot_limits_ok;
 ghost use mathlib.Core.Path.{_≡_};
 ghost use Prim.Native.Nat.{_*_, _≤_};
 ghost use lib.ListN.{length};
 ghost use Rattle.rules.specs.Basics.{zeros};
-ghost use Rattle.rules.specs.Sheet.{fresh, slotLimitsOk};
+ghost use Rattle.rules.specs.Sheet.{fresh};
 ghost use Rattle.rules.specs.Refusals.{says, setUpAnswer, setUp};
 ghost use Rattle.sheet.specs.Lists.{Matched, limitsAnswer, allFresh};
-
-// Whether a slot's clinic, measure and indent are within their limits.
-fn limits_ok(clinic: u32, measure: u32, indent: u32) -> bool
-    ensures { λ r. ⌜ r ≡ slotLimitsOk clinic measure indent ⌝ }
-{
-    (clinic <= 65535) & ((8 <= measure) & (measure <= 1000000) & (indent < measure))
-}
 
 // Answer 11 and the first slot out of limits, or 0 and the number of slots.
 fn limits_answer(clinics: &[u32], measures: &[u32], indents: &[u32]) -> Answer
@@ -25,7 +19,7 @@ fn limits_answer(clinics: &[u32], measures: &[u32], indents: &[u32]) -> Answer
 {
     let mut k = 0;
     while k < clinics.len() {
-        if !limits_ok(clinics[k], measures[k], indents[k]) {
+        if !slot_limits_ok(clinics[k], measures[k], indents[k]) {
             return Answer {
                 number: 11,
                 place: k as u32,

@@ -2,7 +2,6 @@
 use mathlib.Core.Path.{_≡_, sym, ap, _∙_}
 use mathlib.Core.List.{List, _++_, append-assoc}
 use mathlib.Core.Bool.{true}
-use mathlib.Core.Option.{Option, none, some}
 use Prim.Native.Nat.{ℕ, _-_, _*_, _/_, _≤_}
 use native.Mathlib.Omega.{arith}
 use lib.Dec.{eqb}
@@ -11,13 +10,13 @@ use lib.ListN.{length, take, take-append-drop}
 use lib.Seq.{paste, take-all, take-length, length-take-le}
 use borrow.Author.Tests.{ne-eqb}
 use Rattle.rules.specs.Basics.{zeros, padded}
-use Rattle.rules.specs.Records.{Rec, recordWords, badRecord}
-use Rattle.rules.specs.Groups.{units, groupFault}
-use Rattle.rules.specs.Breaks.{noBreaking}
+use Rattle.rules.specs.Records.{Rec, recordWords}
+use Rattle.rules.specs.Groups.{units}
 use Rattle.rules.specs.Adjustment.{compose}
 use Rattle.rules.specs.Sheet.{head, slotWords, placeWords, lineWords, clinicOf, measureOf, indentOf}
-use Rattle.rules.specs.Refusals.{Outcome, says, orElse, judged}
+use Rattle.rules.specs.Refusals.{Outcome, says, judged}
 use Rattle.rules.proofs.Zeros.{drop-zeros}
+use Rattle.rules.proofs.Judged.{judged-0}
 use Rattle.rules.proofs.Words.{words-records, length-records}
 use Rattle.rules.proofs.Lengths.{composed-places, composed-lines, composed-few}
 use Rattle.compose.specs.Paragraph.{size, paragraph}
@@ -34,30 +33,15 @@ padded-paste : (n k : ℕ) (ws : List ℕ) → length ws ≡ k → k ≤ n → p
 padded-paste n k ws e h = rw (← e, take-length, zero-add) (ap (λ l. ws ++ l) (drop-zeros n (length ws) (omega arith)))
 
 -- an accepted paragraph is answered by its line count
-no-8 : {p i : ℕ} → says 8 i ≡ says 0 p → ⊥
-no-8 e = let z : _≡_ {A = ℕ} 8 0 = ap (λ a. a .number) e in omega arith
-
-no-9 : {p i : ℕ} → says 9 i ≡ says 0 p → ⊥
-no-9 e = let z : _≡_ {A = ℕ} 9 0 = ap (λ a. a .number) e in omega arith
-
-no-10 : {p i : ℕ} → says 10 i ≡ says 0 p → ⊥
-no-10 e = let z : _≡_ {A = ℕ} 10 0 = ap (λ a. a .number) e in omega arith
-
-by-lines : (a b c : Option ℕ) (n p : ℕ) → orElse 8 a (orElse 9 b (orElse 10 c (says 0 n))) ≡ says 0 p → p ≡ n
-by-lines (some i) b c n p e = absurd (no-8 e)
-by-lines none (some i) c n p e = absurd (no-9 e)
-by-lines none none (some i) n p e = absurd (no-10 e)
-by-lines none none none n p e = sym (ap (λ a. a .place) e)
-
 line-count : (m x : ℕ) (rs : List Rec) (p : ℕ) → judged m x rs ≡ says 0 p → p ≡ length (compose m x (units rs))
-unfolding judged
 line-count m x rs p e =
-    by-lines (badRecord 0 rs) (groupFault rs) (noBreaking m x (units rs)) (length (compose m x (units rs))) p e
+    ap (λ a. a .place) (sym e ∙ judged-0 m x rs (ap (λ a. a .number) e) .1)
 
 regrouped : (p l q s : List ℕ) → p ++ (l ++ (q ++ s)) ≡ p ++ l ++ q ++ s
 regrouped p l q s = simp append-assoc
 
-assembled : (clinic m x : ℕ) {n n′ k k′ : ℕ} {a a′ b b′ c c′ : List ℕ} → n ≡ n′ → k ≡ k′ → a ≡ a′ → b ≡ b′ → c ≡ c′ →
+assembled : (clinic m x : ℕ) {n n′ k k′ : ℕ} {a a′ b b′ c c′ : List ℕ} →
+    n ≡ n′ → k ≡ k′ → a ≡ a′ → b ≡ b′ → c ≡ c′ →
     head clinic m x n k ++ (a ++ (b ++ c)) ≡ head clinic m x n′ k′ ++ a′ ++ b′ ++ c′
 assembled clinic m x {n′ = n′} {k′ = k′} {a′ = a′} {b′ = b′} {c′ = c′} p q e f g =
     (λ i. head clinic m x (p i) (q i) ++ (e i ++ (f i ++ g i))) ∙ regrouped (head clinic m x n′ k′) a′ b′ c′

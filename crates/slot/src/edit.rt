@@ -3,7 +3,6 @@ ghost use mathlib.Core.Path.{_≡_};
 ghost use mathlib.Core.Bool.{cond};
 ghost use lib.ListN.{length, take};
 ghost use Rattle.rules.specs.Refusals.{says, sound, editSlot};
-ghost use Rattle.rules.specs.Sheet.{limitsOk};
 ghost use Rattle.compose.specs.Paragraph.{paragraph};
 ghost use Rattle.slot.specs.Slot.{replaced, Replaceable};
 use crate::words::splice;
@@ -11,6 +10,7 @@ use crate::words::write_slot;
 use compose::Answer;
 use compose::check;
 use compose::compose;
+use rules::limits_ok;
 
 fn refusal(number: u32, place: u32) -> Answer
     ensures { λ r. ⌜ (r .number ≡ number) × (r .place ≡ place) ⌝ }
@@ -19,13 +19,6 @@ fn refusal(number: u32, place: u32) -> Answer
         number: number,
         place: place,
     }
-}
-
-// Whether a measure and an indent are within their limits.
-pub fn limits_ok(m: u32, x: u32) -> bool
-    ensures { λ b. ⌜ b ≡ limitsOk m x ⌝ }
-{
-    (8 <= m) & (m <= 1000000) & (x < m)
 }
 
 // Whether answer 4 does not apply to a slot.
@@ -46,8 +39,8 @@ fn is_sound(words: &[u32]) -> bool
     check(&words[8..end], m, x)
 }
 
-// 4 where answer 4 applies to a slot, or 0. A function of its own, so that a foreign or damaged slot is turned away
-// before the tables' frame is made: docs/DECISIONS.md, 17.
+// 4 where answer 4 applies to a slot, or 0. A function of its own, so that a damaged slot is turned away before the
+// frame of the new record list is made.
 fn stored_answer(words: &[u32]) -> u32
     requires { ⌜ length (now words) ≡ 2824 ⌝ }
     ensures { λ n. ⌜ n ≡ cond (sound (now (words .entry))) 0 4 ⌝ }

@@ -1,0 +1,38 @@
+-- What an answer to records tells of them: 0 that a breaking exists, with the line count; 10 where none does.
+-- Assumes nothing.
+use mathlib.Core.Path.{_≡_, refl}
+use Prim.Native.Nat.{ℕ}
+use native.Mathlib.Omega.{arith}
+use mathlib.Core.List.{List}
+use mathlib.Core.Option.{Option, none, some}
+use lib.ListN.{length}
+use Rattle.rules.specs.Records.{Rec, badRecord}
+use Rattle.rules.specs.Groups.{groupFault, units}
+use Rattle.rules.specs.Breaks.{noBreaking}
+use Rattle.rules.specs.Adjustment.{compose}
+use Rattle.rules.specs.Refusals.{Answer, says, orElse, judged}
+
+abbrev by : Option ℕ → Option ℕ → Option ℕ → ℕ → Answer
+by p q r n = orElse 8 p (orElse 9 q (orElse 10 r (says 0 n)))
+
+by-0 : (p q r : Option ℕ) (n : ℕ) → by p q r n .number ≡ 0 → (r ≡ none) × (by p q r n ≡ says 0 n)
+by-0 none none none n e = (refl, refl)
+by-0 none none (some i) n e = absurd (omega (arith, e))
+by-0 none (some i) r n e = absurd (omega (arith, e))
+by-0 (some i) q r n e = absurd (omega (arith, e))
+
+by-10 : (p q r : Option ℕ) (n : ℕ) → by p q r n .number ≡ 10 → r ≡ some (by p q r n .place)
+by-10 none none none n e = absurd (omega (arith, e))
+by-10 none none (some i) n e = refl
+by-10 none (some i) r n e = absurd (omega (arith, e))
+by-10 (some i) q r n e = absurd (omega (arith, e))
+
+module _ (m x : ℕ) (rs : List Rec) where
+  pub judged-0 : judged m x rs .number ≡ 0 →
+      (noBreaking m x (units rs) ≡ none) × (judged m x rs ≡ says 0 (length (compose m x (units rs))))
+  unfolding judged
+  judged-0 e = by-0 (badRecord 0 rs) (groupFault rs) _ _ e
+
+  pub judged-10 : judged m x rs .number ≡ 10 → noBreaking m x (units rs) ≡ some (judged m x rs .place)
+  unfolding judged
+  judged-10 e = by-10 (badRecord 0 rs) (groupFault rs) _ _ e
