@@ -3,6 +3,7 @@
 use std::ops::Range;
 
 type SetUp = fn(&mut [u32], &[u32], &[u32], &[u32]) -> u32;
+/// Plain arguments, as the proved program takes them: its time should not hold unpacking a struct.
 type Edit = fn(&mut [u32], u32, u32, u32, u32, &[u32]) -> u32;
 
 /// The columns of the two programs.
@@ -24,7 +25,7 @@ const SECOND_PROGRAM: Program = Program {
     name: SECOND,
     set_up: |sheet, clinics, measures, indents| second::set_up(sheet, clinics, measures, indents).number,
     edit: |sheet, caller, slot, place, deleted, inserted| {
-        second::edit(sheet, caller, slot, place, deleted, inserted).number
+        second::edit(sheet, second::Edit { caller, slot, place, deleted, inserted }).number
     },
     read_number: second::read_number,
     read: second::read,

@@ -1,7 +1,7 @@
 //! One slot on each side, whose whole text is replaced again and again: the quick way to compare
 //! many paragraphs. What the last text left behind is compared too.
 
-use second::Answer;
+use second::{Answer, Edit};
 
 use crate::calls::{Call, Case};
 use crate::failure::Failure;
@@ -54,8 +54,9 @@ impl<'a> OneSlot<'a> {
     /// Puts these records in place of all others.
     pub fn replace(&mut self, records: &[u32]) -> Result<Answer, Failure> {
         let deleted = (self.records.len() / 6) as u32;
-        let tested = self.program.edit(&mut self.tested, CLINIC, 0, 0, deleted, records);
-        let second = Second.edit(&mut self.second, CLINIC, 0, 0, deleted, records);
+        let edit = Edit { caller: CLINIC, slot: 0, place: 0, deleted, inserted: records };
+        let tested = self.program.edit(&mut self.tested, edit);
+        let second = Second.edit(&mut self.second, edit);
         self.compared(tested, second, || Call::replace(CLINIC, deleted, records))?;
         if second.number == 0 {
             self.records.clear();

@@ -2,7 +2,7 @@
 
 use std::ops::Range;
 
-use second::{Answer, RubyPlace};
+use second::{Answer, Edit, RubyPlace};
 
 /// A program that answers document 01's calls on raw words.
 pub trait Program {
@@ -10,15 +10,7 @@ pub trait Program {
     fn set_up(&self, sheet: &mut [u32], clinics: &[u32], measures: &[u32], indents: &[u32]) -> Answer;
 
     /// Edit.
-    fn edit(
-        &self,
-        sheet: &mut [u32],
-        caller: u32,
-        slot: u32,
-        place: u32,
-        deleted: u32,
-        inserted: &[u32],
-    ) -> Answer;
+    fn edit(&self, sheet: &mut [u32], edit: Edit<'_>) -> Answer;
 
     /// Read's number.
     fn read_number(&self, sheet: &[u32], caller: u32, slot: u32) -> u32;
@@ -39,16 +31,8 @@ impl Program for Second {
         second::set_up(sheet, clinics, measures, indents)
     }
 
-    fn edit(
-        &self,
-        sheet: &mut [u32],
-        caller: u32,
-        slot: u32,
-        place: u32,
-        deleted: u32,
-        inserted: &[u32],
-    ) -> Answer {
-        second::edit(sheet, caller, slot, place, deleted, inserted)
+    fn edit(&self, sheet: &mut [u32], edit: Edit<'_>) -> Answer {
+        second::edit(sheet, edit)
     }
 
     fn read_number(&self, sheet: &[u32], caller: u32, slot: u32) -> u32 {
@@ -76,17 +60,9 @@ impl Program for Proved {
         Answer { number: answer.number, place: answer.place }
     }
 
-    fn edit(
-        &self,
-        sheet: &mut [u32],
-        caller: u32,
-        slot: u32,
-        place: u32,
-        deleted: u32,
-        inserted: &[u32],
-    ) -> Answer {
-        let (caller, slot) = (gelumbrio::Clinic(caller), gelumbrio::SlotNumber(slot));
-        let answer = gelumbrio::raw::edit(sheet, caller, slot, place, deleted, inserted);
+    fn edit(&self, sheet: &mut [u32], edit: Edit<'_>) -> Answer {
+        let (caller, slot) = (gelumbrio::Clinic(edit.caller), gelumbrio::SlotNumber(edit.slot));
+        let answer = gelumbrio::raw::edit(sheet, caller, slot, edit.place, edit.deleted, edit.inserted);
         Answer { number: answer.number, place: answer.place }
     }
 

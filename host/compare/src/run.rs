@@ -3,7 +3,7 @@
 use std::ops::Range;
 
 use second::book::Book;
-use second::Answer;
+use second::{Answer, Edit};
 
 use crate::calls::{Call, Case};
 use crate::layout;
@@ -82,8 +82,8 @@ impl<'a> Run<'a> {
     pub fn apply(&mut self, call: &Call) -> Result<(), String> {
         match call {
             Call::SetUp { clinics, measures, indents } => self.set_up(clinics, measures, indents)?,
-            Call::Edit { caller, slot, place, deleted, inserted } => {
-                self.edit(*caller, *slot, *place, *deleted, inserted)?;
+            &Call::Edit { caller, slot, place, deleted, ref inserted } => {
+                self.edit(Edit { caller, slot, place, deleted, inserted })?;
             }
             Call::Read { caller, slot } => self.read(*caller, *slot)?,
             Call::Damage { at, word } => self.damage(*at, *word),
@@ -107,20 +107,12 @@ impl<'a> Run<'a> {
         Ok(())
     }
 
-    fn edit(
-        &mut self,
-        caller: u32,
-        slot: u32,
-        place: u32,
-        deleted: u32,
-        inserted: &[u32],
-    ) -> Result<(), String> {
-        let tested = self.program.edit(&mut self.tested, caller, slot, place, deleted, inserted);
-        let second = Second.edit(&mut self.second, caller, slot, place, deleted, inserted);
+    fn edit(&mut self, edit: Edit<'_>) -> Result<(), String> {
+        let tested = self.program.edit(&mut self.tested, edit);
+        let second = Second.edit(&mut self.second, edit);
         same_answer(tested, second, "the second program")?;
         if self.book_holds {
-            let length = self.tested.len();
-            let book = self.book.edit(length, caller, slot, place, deleted, inserted);
+            let book = self.book.edit(self.tested.len(), edit);
             same_answer(tested, book, "the book")?;
         }
         self.tally.count(second);

@@ -8,7 +8,7 @@ use crate::answer::{Answer, Refusal};
 use crate::breaking::Setting;
 use crate::compose::compose;
 use crate::records::{spliced, Record};
-use crate::sheet::{check_caller, check_set_up, line_words, slot_count, slot_words};
+use crate::sheet::{check_caller, check_set_up, line_words, slot_count, slot_words, Edit};
 
 /// A slot of the book.
 #[derive(Debug, Clone)]
@@ -77,18 +77,10 @@ impl Book {
     }
 
     /// Edit.
-    pub fn edit(
-        &mut self,
-        sheet_length: usize,
-        caller: u32,
-        slot: u32,
-        place: u32,
-        deleted: u32,
-        inserted: &[u32],
-    ) -> Answer {
-        let outcome = self.callers_slot(sheet_length, caller, slot).and_then(|slot| {
+    pub fn edit(&mut self, sheet_length: usize, edit: Edit) -> Answer {
+        let outcome = self.callers_slot(sheet_length, edit.caller, edit.slot).and_then(|slot| {
             let entry = &mut self.entries[slot];
-            let records = spliced(&entry.records, place, deleted, inserted)?;
+            let records = spliced(&entry.records, edit.place, edit.deleted, edit.inserted)?;
             let composition = compose(&records, entry.setting)?;
             entry.records = records;
             Ok(composition.lines.len())

@@ -34,5 +34,5 @@ pub mod spacing;
 pub mod units;
 
 pub use answer::{Answer, RubyPlace};
-pub use sheet::{edit, read, read_number, set_up, slot_words};
+pub use sheet::{edit, read, read_number, set_up, slot_words, Edit};
 pub use units::ruby_place;

@@ -44,6 +44,21 @@ impl Head {
     }
 }
 
+/// What edit takes besides a sheet.
+#[derive(Debug, Clone, Copy)]
+pub struct Edit<'a> {
+    /// A caller's clinic.
+    pub caller: u32,
+    /// A slot.
+    pub slot: u32,
+    /// A place, in records.
+    pub place: u32,
+    /// A count to delete, in records.
+    pub deleted: u32,
+    /// A slice of words to insert.
+    pub inserted: &'a [u32],
+}
+
 /// Set-up: gives each slot its clinic, measure and indent and empties it.
 pub fn set_up(sheet: &mut [u32], clinics: &[u32], measures: &[u32], indents: &[u32]) -> Answer {
     let outcome = check_set_up(sheet.len(), clinics, measures, indents);
@@ -58,8 +73,8 @@ pub fn set_up(sheet: &mut [u32], clinics: &[u32], measures: &[u32], indents: &[u
 }
 
 /// Edit: deletes records at a place, inserts others there and composes the slot anew.
-pub fn edit(sheet: &mut [u32], caller: u32, slot: u32, place: u32, deleted: u32, inserted: &[u32]) -> Answer {
-    Answer::from(try_edit(sheet, caller, slot, place, deleted, inserted))
+pub fn edit(sheet: &mut [u32], edit: Edit) -> Answer {
+    Answer::from(try_edit(sheet, edit))
 }
 
 /// Read's number: 0, or why `read` hands back nothing.
@@ -132,21 +147,14 @@ pub fn line_words(composition: &Composition) -> impl Iterator<Item = [u32; LINE_
 }
 
 /// The table in its order: each step gives the answers beside it.
-fn try_edit(
-    sheet: &mut [u32],
-    caller: u32,
-    slot: u32,
-    place: u32,
-    deleted: u32,
-    inserted: &[u32],
-) -> Result<usize, Refusal> {
+fn try_edit(sheet: &mut [u32], edit: Edit) -> Result<usize, Refusal> {
     slot_count(sheet.len())?; // 1
     let (slots, _) = sheet.as_chunks_mut::<SLOT_WORDS>();
-    let slot = slots.get_mut(slot as usize).ok_or(Refusal::Slot)?; // 2
+    let slot = slots.get_mut(edit.slot as usize).ok_or(Refusal::Slot)?; // 2
     let head = Head::of(slot);
-    check_caller(caller, head.clinic)?; // 3
+    check_caller(edit.caller, head.clinic)?; // 3
     let stored = stored_records(slot, &head).ok_or(Refusal::Stored)?; // 4
-    let records = spliced(&stored, place, deleted, inserted)?; // 5 to 8
+    let records = spliced(&stored, edit.place, edit.deleted, edit.inserted)?; // 5 to 8
     let composition = compose(&records, head.setting)?; // 9 and 10
     write(slot, &records, &composition);
     Ok(composition.lines.len())

@@ -5,7 +5,7 @@ mod common;
 use common::{flat, random_records, Random};
 use second::book::Book;
 use second::sheet::SLOT_WORDS;
-use second::{edit, read, read_number, set_up};
+use second::{read, read_number, set_up, Edit};
 
 const SEEDS: std::ops::Range<u64> = 1..201;
 const CALLS: u32 = 100;
@@ -71,10 +71,9 @@ impl Run {
             let at = random.below(inserted.len() as u32) as usize;
             inserted[at] = random.one_of(&[0, 1, 80, 65_536, u32::MAX]);
         }
-        let answer = edit(&mut self.sheet, caller, slot, place, deleted, &inserted);
-        let book = &mut self.book;
-        let expected = book.edit(self.sheet.len(), caller, slot, place, deleted, &inserted);
-        assert_eq!(answer, expected);
+        let edit = Edit { caller, slot, place, deleted, inserted: &inserted };
+        let answer = second::edit(&mut self.sheet, edit);
+        assert_eq!(answer, self.book.edit(self.sheet.len(), edit));
         self.numbers[answer.number as usize] += 1;
     }
 
@@ -94,7 +93,8 @@ impl Run {
             if records.is_empty() || slot[0] == 0 {
                 continue;
             }
-            let answer = edit(&mut single, slot[0], i as u32, 0, 0, records);
+            let edit = Edit { caller: slot[0], slot: i as u32, place: 0, deleted: 0, inserted: records };
+            let answer = second::edit(&mut single, edit);
             assert_eq!((answer.number, answer.place), (0, slot[4]));
             assert_eq!(&single[i * SLOT_WORDS..][..SLOT_WORDS], slot);
         }
@@ -140,8 +140,9 @@ fn before_set_up_the_book_has_no_slots() {
     assert!(!book.is_set_up());
     assert_eq!(book.encode(), []);
     assert_eq!(book.set_up(SLOT_WORDS, &[1], &[7], &[0]).number, 11);
-    assert_eq!(book.edit(SLOT_WORDS + 1, 1, 0, 0, 0, &[]).number, 1);
-    assert_eq!(book.edit(SLOT_WORDS, 1, 1, 0, 0, &[]).number, 2);
-    assert_eq!(book.edit(SLOT_WORDS, 1, 0, 0, 0, &[]).number, 3);
+    let edit = Edit { caller: 1, slot: 0, place: 0, deleted: 0, inserted: &[] };
+    assert_eq!(book.edit(SLOT_WORDS + 1, edit).number, 1);
+    assert_eq!(book.edit(SLOT_WORDS, Edit { slot: 1, ..edit }).number, 2);
+    assert_eq!(book.edit(SLOT_WORDS, edit).number, 3);
     assert_eq!(book.read(SLOT_WORDS, 1, 0).number, 3);
 }

@@ -2,7 +2,7 @@
 
 mod common;
 
-use common::{edit, flat, k, one_slot, CLINIC};
+use common::{edit, flat, k, one_slot, own, CLINIC};
 use second::by_hand::{CASES, RUBY};
 use second::{ruby_place, RubyPlace};
 
@@ -10,7 +10,7 @@ use second::{ruby_place, RubyPlace};
 fn every_word_of_every_case() {
     for case in CASES {
         let mut sheet = one_slot(case.measure, 0);
-        let answer = second::edit(&mut sheet, CLINIC, 0, 0, 0, &flat(case.records));
+        let answer = second::edit(&mut sheet, own(0, 0, &flat(case.records)));
         let (expected, words) = case.expected(CLINIC);
         assert_eq!(answer, expected, "{} at measure {}", case.name, case.measure);
         let differing = sheet.iter().zip(&words).position(|(a, b)| a != b);
@@ -22,7 +22,7 @@ fn every_word_of_every_case() {
 fn c3_whole() {
     let mut sheet = one_slot(440, 0);
     let inserted = flat(&[k(); 6]);
-    assert_eq!(edit(&mut sheet, CLINIC, 0, 0, 0, &inserted), (0, 2));
+    assert_eq!(edit(&mut sheet, own(0, 0, &inserted)), (0, 2));
 
     let mut expected = vec![0; 2_824];
     expected[..8].copy_from_slice(&[CLINIC, 440, 0, 6, 2, 0, 0, 0]);

@@ -4,7 +4,7 @@ mod common;
 
 use common::{flat, random_records, Random};
 use second::sheet::SLOT_WORDS;
-use second::RubyPlace;
+use second::{Edit, RubyPlace};
 
 const SEEDS: std::ops::Range<u64> = 1..3_001;
 
@@ -62,7 +62,7 @@ fn edits(random: &mut Random, sheet: &mut [u32], caller: u32, slot: u32) -> bool
     } else {
         (random.one_of(&EDGES), random.one_of(&EDGES), words(random))
     };
-    let answer = second::edit(sheet, caller, slot, place, deleted, &inserted);
+    let answer = second::edit(sheet, Edit { caller, slot, place, deleted, inserted: &inserted });
     if answer.number != 0 {
         assert_eq!(sheet, before);
         return false;

@@ -2,7 +2,7 @@
 
 mod common;
 
-use common::{compose, edit, flat, grouped, k, one_slot, plain, record, refused, Words, CLINIC};
+use common::{compose, edit, flat, grouped, k, one_slot, own, plain, record, refused, Words};
 
 const BIG: u32 = u32::MAX;
 
@@ -78,8 +78,8 @@ fn number_8_group_and_ruby() {
 fn number_8_names_the_first() {
     assert_eq!(compose(&[k(), [0; 6], [0; 6]], 800, 0), (8, 1));
     let mut sheet = one_slot(800, 0);
-    assert_eq!(edit(&mut sheet, CLINIC, 0, 0, 0, &flat(&[k(); 3])), (0, 1));
-    assert_eq!(refused(&mut sheet, CLINIC, 0, 2, 1, &flat(&[k(), [0; 6]])), (8, 3));
+    assert_eq!(edit(&mut sheet, own(0, 0, &flat(&[k(); 3]))), (0, 1));
+    assert_eq!(refused(&mut sheet, own(2, 1, &flat(&[k(), [0; 6]]))), (8, 3));
 }
 
 #[test]
@@ -100,6 +100,6 @@ fn number_9() {
 fn number_9_where_an_edit_joins_two_groups() {
     let mut sheet = one_slot(800, 0);
     let text = [grouped(16, 1, 2), k(), grouped(8, 1, 2)];
-    assert_eq!(edit(&mut sheet, CLINIC, 0, 0, 0, &flat(&text)), (0, 1));
-    assert_eq!(refused(&mut sheet, CLINIC, 0, 1, 1, &[]), (9, 1));
+    assert_eq!(edit(&mut sheet, own(0, 0, &flat(&text))), (0, 1));
+    assert_eq!(refused(&mut sheet, own(1, 1, &[])), (9, 1));
 }

@@ -3,8 +3,8 @@
 
 mod common;
 
-use common::{compose, edit, flat, grouped, k, one_slot, plain, refused, CLINIC};
-use second::{read, read_number, set_up, slot_words, Answer};
+use common::{compose, edit, flat, grouped, k, one_slot, own, plain, refused, CLINIC};
+use second::{read, read_number, set_up, slot_words, Answer, Edit};
 
 const SLOT: usize = 2_824;
 const BIG: u32 = u32::MAX;
@@ -75,33 +75,34 @@ fn each_number_comes_before_the_next() {
     let broken = [grouped(16, 1, 3), grouped(8, 1, 3), plain(19, 4_000), [0; 6]];
     let mut long = flat(&broken).repeat(75);
     long.push(0);
+    let every_fault = Edit { caller: 0, slot: 2, ..own(9, BIG, &long) };
     let mut sheet = vec![0; 2 * SLOT + 1];
-    assert_eq!(refused(&mut sheet, 0, 2, 9, BIG, &long), (1, 0));
+    assert_eq!(refused(&mut sheet, every_fault), (1, 0));
     sheet.pop();
     assert_eq!(set_up(&mut sheet, &[CLINIC, 9], &[800, 800], &[0, 0]), answer(0, 2));
-    assert_eq!(edit(&mut sheet, CLINIC, 0, 0, 0, &flat(&[k(); 2])), (0, 1));
+    assert_eq!(edit(&mut sheet, own(0, 0, &flat(&[k(); 2]))), (0, 1));
     let sound = sheet.clone();
     sheet[1] = 0;
-    assert_eq!(refused(&mut sheet, 0, 2, 9, BIG, &long), (2, 0));
-    assert_eq!(refused(&mut sheet, 0, 0, 9, BIG, &long), (3, 0));
-    assert_eq!(refused(&mut sheet, 9, 0, 9, BIG, &long), (3, 0));
-    assert_eq!(refused(&mut sheet, CLINIC, 0, 9, BIG, &long), (4, 0));
+    assert_eq!(refused(&mut sheet, every_fault), (2, 0));
+    assert_eq!(refused(&mut sheet, Edit { slot: 0, ..every_fault }), (3, 0));
+    assert_eq!(refused(&mut sheet, Edit { caller: 9, slot: 0, ..every_fault }), (3, 0));
+    assert_eq!(refused(&mut sheet, own(9, BIG, &long)), (4, 0));
     sheet = sound;
-    assert_eq!(refused(&mut sheet, CLINIC, 0, 9, BIG, &long), (5, 2));
-    assert_eq!(refused(&mut sheet, CLINIC, 0, 1, 0, &long), (6, 0));
+    assert_eq!(refused(&mut sheet, own(9, BIG, &long)), (5, 2));
+    assert_eq!(refused(&mut sheet, own(1, 0, &long)), (6, 0));
     long.pop();
-    assert_eq!(refused(&mut sheet, CLINIC, 0, 1, 0, &long), (7, 0));
-    assert_eq!(refused(&mut sheet, CLINIC, 0, 1, 0, &flat(&broken)), (8, 4));
-    assert_eq!(refused(&mut sheet, CLINIC, 0, 1, 0, &flat(&broken[..3])), (9, 2));
-    assert_eq!(refused(&mut sheet, CLINIC, 0, 1, 0, &flat(&broken[1..3])), (10, 2));
-    assert_eq!(edit(&mut sheet, CLINIC, 0, 1, 0, &flat(&broken[1..2])), (0, 1));
+    assert_eq!(refused(&mut sheet, own(1, 0, &long)), (7, 0));
+    assert_eq!(refused(&mut sheet, own(1, 0, &flat(&broken))), (8, 4));
+    assert_eq!(refused(&mut sheet, own(1, 0, &flat(&broken[..3]))), (9, 2));
+    assert_eq!(refused(&mut sheet, own(1, 0, &flat(&broken[1..3]))), (10, 2));
+    assert_eq!(edit(&mut sheet, own(1, 0, &flat(&broken[1..2]))), (0, 1));
 }
 
 #[test]
 fn number_1() {
     for length in [0, 1, SLOT - 1, SLOT + 1, 65 * SLOT] {
         let mut sheet = vec![1; length];
-        assert_eq!(refused(&mut sheet, 1, 0, 0, 0, &[]), (1, 0), "{length}");
+        assert_eq!(refused(&mut sheet, Edit { caller: 1, ..own(0, 0, &[]) }), (1, 0), "{length}");
         assert_eq!(read_number(&sheet, 1, 0), 1);
         assert_eq!(read(&sheet, 1, 0), 0..0);
     }
@@ -111,7 +112,7 @@ fn number_1() {
 fn number_2() {
     let mut sheet = one_slot(800, 0);
     for slot in [1, 64, BIG] {
-        assert_eq!(refused(&mut sheet, CLINIC, slot, 0, 0, &[]), (2, 0));
+        assert_eq!(refused(&mut sheet, Edit { slot, ..own(0, 0, &[]) }), (2, 0));
         assert_eq!(read_number(&sheet, CLINIC, slot), 2);
         assert_eq!(read(&sheet, CLINIC, slot), 0..0);
     }
@@ -121,38 +122,38 @@ fn number_2() {
 fn number_3() {
     let mut sheet = one_slot(800, 0);
     for caller in [0, 8, CLINIC + 65_536, BIG] {
-        assert_eq!(refused(&mut sheet, caller, 0, 0, 0, &[]), (3, 0));
+        assert_eq!(refused(&mut sheet, Edit { caller, ..own(0, 0, &[]) }), (3, 0));
         assert_eq!(read_number(&sheet, caller, 0), 3);
         assert_eq!(read(&sheet, caller, 0), 0..0);
     }
     // Nobody is the caller of an unassigned slot.
     sheet[0] = 0;
-    assert_eq!(refused(&mut sheet, 0, 0, 0, 0, &[]), (3, 0));
+    assert_eq!(refused(&mut sheet, Edit { caller: 0, ..own(0, 0, &[]) }), (3, 0));
     assert_eq!(read_number(&sheet, 0, 0), 3);
     // The table does not judge a stored clinic: its own caller gets in.
     sheet[0] = BIG;
-    assert_eq!(edit(&mut sheet, BIG, 0, 0, 0, &[]), (0, 0));
+    assert_eq!(edit(&mut sheet, Edit { caller: BIG, ..own(0, 0, &[]) }), (0, 0));
 }
 
 #[test]
 fn number_4() {
     let mut sound = one_slot(800, 100);
     let text = [k(), grouped(80, 1, 2), grouped(80, 1, 2)];
-    assert_eq!(edit(&mut sound, CLINIC, 0, 0, 0, &flat(&text)), (0, 1));
+    assert_eq!(edit(&mut sound, own(0, 0, &flat(&text))), (0, 1));
     // Measure, indent, count, a record's own rules, a group rule, a wide run.
     let damages =
         [(1, 7), (1, 1_000_001), (2, 800), (3, 257), (3, BIG), (3, 4), (9, 17), (8 + 12 + 5, 3), (1, 159)];
     for (at, word) in damages {
         let mut sheet = sound.clone();
         sheet[at] = word;
-        assert_eq!(refused(&mut sheet, CLINIC, 0, 0, 3, &[]), (4, 0), "word {at} = {word}");
-        assert_eq!(refused(&mut sheet, 8, 0, 0, 3, &[]), (3, 0));
+        assert_eq!(refused(&mut sheet, own(0, 3, &[])), (4, 0), "word {at} = {word}");
+        assert_eq!(refused(&mut sheet, Edit { caller: 8, ..own(0, 3, &[]) }), (3, 0));
     }
     // Past the count, in the line count, in the spare words, places and lines, nothing is judged.
     for (at, word) in [(4, BIG), (5, 1), (7, BIG), (26, BIG), (1_544, BIG), (2_056, BIG)] {
         let mut sheet = sound.clone();
         sheet[at] = word;
-        assert_eq!(edit(&mut sheet, CLINIC, 0, 0, 0, &[]), (0, 1), "word {at} = {word}");
+        assert_eq!(edit(&mut sheet, own(0, 0, &[])), (0, 1), "word {at} = {word}");
         assert_eq!(sheet, sound, "an accepted edit writes the zeros too");
     }
 }
@@ -176,24 +177,24 @@ fn a_read_judges_the_line_count_only() {
 #[test]
 fn number_5() {
     let mut sheet = one_slot(800, 0);
-    assert_eq!(edit(&mut sheet, CLINIC, 0, 0, 0, &flat(&[k(); 3])), (0, 1));
+    assert_eq!(edit(&mut sheet, own(0, 0, &flat(&[k(); 3]))), (0, 1));
     for (place, deleted) in [(4, 0), (3, 1), (0, 4), (1, BIG), (BIG, 1), (BIG, BIG), (BIG, 0)] {
-        assert_eq!(refused(&mut sheet, CLINIC, 0, place, deleted, &[]), (5, 3), "{place} {deleted}");
+        assert_eq!(refused(&mut sheet, own(place, deleted, &[])), (5, 3), "{place} {deleted}");
     }
-    assert_eq!(edit(&mut sheet, CLINIC, 0, 3, 0, &[]), (0, 1));
-    assert_eq!(edit(&mut sheet, CLINIC, 0, 0, 3, &[]), (0, 0));
+    assert_eq!(edit(&mut sheet, own(3, 0, &[])), (0, 1));
+    assert_eq!(edit(&mut sheet, own(0, 3, &[])), (0, 0));
 }
 
 #[test]
 fn number_6_and_7() {
     let mut sheet = one_slot(8_000, 0);
-    assert_eq!(refused(&mut sheet, CLINIC, 0, 0, 0, &[0; 5]), (6, 0));
-    assert_eq!(refused(&mut sheet, CLINIC, 0, 0, 0, &[0; 6 * 300 + 1]), (6, 0));
-    assert_eq!(refused(&mut sheet, CLINIC, 0, 0, 0, &[0; 6 * 257]), (7, 0));
-    assert_eq!(edit(&mut sheet, CLINIC, 0, 0, 0, &flat(&[k(); 256])).0, 0);
-    assert_eq!(refused(&mut sheet, CLINIC, 0, 128, 0, &flat(&[k()])), (7, 0));
-    assert_eq!(refused(&mut sheet, CLINIC, 0, 128, 3, &flat(&[k(); 4])), (7, 0));
-    assert_eq!(edit(&mut sheet, CLINIC, 0, 128, 4, &flat(&[k(); 4])).0, 0);
+    assert_eq!(refused(&mut sheet, own(0, 0, &[0; 5])), (6, 0));
+    assert_eq!(refused(&mut sheet, own(0, 0, &[0; 6 * 300 + 1])), (6, 0));
+    assert_eq!(refused(&mut sheet, own(0, 0, &[0; 6 * 257])), (7, 0));
+    assert_eq!(edit(&mut sheet, own(0, 0, &flat(&[k(); 256]))).0, 0);
+    assert_eq!(refused(&mut sheet, own(128, 0, &flat(&[k()]))), (7, 0));
+    assert_eq!(refused(&mut sheet, own(128, 3, &flat(&[k(); 4]))), (7, 0));
+    assert_eq!(edit(&mut sheet, own(128, 4, &flat(&[k(); 4]))).0, 0);
 }
 
 #[test]

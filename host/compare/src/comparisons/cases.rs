@@ -2,6 +2,7 @@
 //! second program.
 
 use second::by_hand::{self, CASES, RUBY};
+use second::Edit;
 
 use crate::calls::{Call, Case};
 use crate::failure::Failure;
@@ -47,7 +48,9 @@ fn paper_failure(name: &'static str, difference: String) -> Failure {
 fn as_on_paper(program: &dyn Program, case: &by_hand::Case) -> Result<(), String> {
     let mut sheet = vec![0; SLOT];
     program.set_up(&mut sheet, &[CLINIC], &[case.measure], &[0]);
-    let answer = program.edit(&mut sheet, CLINIC, 0, 0, 0, &case.records.concat());
+    let inserted = case.records.concat();
+    let edit = Edit { caller: CLINIC, slot: 0, place: 0, deleted: 0, inserted: &inserted };
+    let answer = program.edit(&mut sheet, edit);
     let (expected, words) = case.expected(CLINIC);
     same_answer(answer, expected, PAPER)?;
     same_words(&sheet, &words, PAPER)

@@ -1,6 +1,6 @@
 //! Edits with a fault: what goes in is changed, or what comes out is spoiled.
 
-use second::Answer;
+use second::{Answer, Edit};
 
 use super::slots::{
     slot_words, slot_words_mut, spoil_next_slot, spoil_slot, store_records, stored_records, whole_slots,
@@ -10,133 +10,120 @@ use crate::calls::Words;
 use crate::layout::SLOT;
 use crate::program::{Program, Second};
 
-/// The arguments of an edit.
-pub struct Edit<'a> {
-    pub caller: u32,
-    pub slot: u32,
-    pub place: u32,
-    pub deleted: u32,
-    pub inserted: &'a [u32],
+/// The edit with this fault.
+pub fn with_fault(fault: Fault, sheet: &mut [u32], edit: Edit<'_>) -> Answer {
+    let before = sheet.to_vec();
+    let answer = with_changed_input(fault, sheet, edit);
+    with_spoiled_output(fault, sheet, edit, &before, answer)
 }
 
-impl Edit<'_> {
-    /// The edit with this fault.
-    pub fn with(&self, fault: Fault, sheet: &mut [u32]) -> Answer {
-        let before = sheet.to_vec();
-        let answer = self.with_changed_input(fault, sheet);
-        self.with_spoiled_output(fault, sheet, &before, answer)
-    }
-
-    /// The right edit, by this caller of this slot.
-    fn by(&self, sheet: &mut [u32], caller: u32, slot: u32) -> Answer {
-        Second.edit(sheet, caller, slot, self.place, self.deleted, self.inserted)
-    }
-
-    /// The right edit.
-    fn right(&self, sheet: &mut [u32]) -> Answer {
-        self.by(sheet, self.caller, self.slot)
-    }
-
-    /// The edit where the fault lies in what goes in.
-    fn with_changed_input(&self, fault: Fault, sheet: &mut [u32]) -> Answer {
-        let slots = (sheet.len() / SLOT).max(1) as u32;
-        let clinic = slot_words(sheet, self.slot).map_or(0, |words| words[0]);
-        match fault {
-            Fault::NaturalBreaks => self.with_records_as(sheet, |record| class_as(record, 7, 6)),
-            Fault::ClassAs(class, other) => {
-                self.with_records_as(sheet, |record| class_as(record, class, other))
-            }
-            Fault::NarrowRuby => self.with_records_as(sheet, with_one_ruby),
-            Fault::DashesAlike => self.with_records_as(sheet, with_one_dash),
-            Fault::LargeSizes => self.with_records_as(sheet, with_size_in_limits),
-            Fault::CallerZero if self.caller == 0 && clinic == 0 => self.with_head_word(sheet, 0, 1, 1),
-            Fault::ShortCaller if self.caller % 65_536 == clinic => self.by(sheet, clinic, self.slot),
-            Fault::SlotWraps => self.by(sheet, self.caller, self.slot % slots),
-            Fault::LooseLength => self.right(whole_slots(sheet)),
-            Fault::IndentForgotten => self.with_head_word(sheet, 2, 0, self.caller),
-            Fault::DeletionWraps if self.place.checked_add(self.deleted).is_none() => {
-                Second.edit(sheet, self.caller, self.slot, 0, 0, self.inserted)
-            }
-            _ => self.right(sheet),
+/// The edit where the fault lies in what goes in.
+fn with_changed_input(fault: Fault, sheet: &mut [u32], edit: Edit<'_>) -> Answer {
+    let slots = (sheet.len() / SLOT).max(1) as u32;
+    let clinic = slot_words(sheet, edit.slot).map_or(0, |words| words[0]);
+    match fault {
+        Fault::NaturalBreaks => with_records_as(sheet, edit, |record| class_as(record, 7, 6)),
+        Fault::ClassAs(class, other) => with_records_as(sheet, edit, |record| class_as(record, class, other)),
+        Fault::NarrowRuby => with_records_as(sheet, edit, with_one_ruby),
+        Fault::DashesAlike => with_records_as(sheet, edit, with_one_dash),
+        Fault::LargeSizes => with_records_as(sheet, edit, with_size_in_limits),
+        Fault::CallerZero if edit.caller == 0 && clinic == 0 => {
+            with_head_word(sheet, Edit { caller: 1, ..edit }, 0, 1)
         }
-    }
-
-    /// The edit of a slot in which a word of the head is another.
-    fn with_head_word(&self, sheet: &mut [u32], at: usize, word: u32, caller: u32) -> Answer {
-        let Some(slot) = slot_words_mut(sheet, self.slot) else {
-            return self.right(sheet);
-        };
-        let kept = std::mem::replace(&mut slot[at], word);
-        let answer = self.by(sheet, caller, self.slot);
-        if let Some(slot) = slot_words_mut(sheet, self.slot) {
-            slot[at] = kept;
+        Fault::ShortCaller if edit.caller % 65_536 == clinic => {
+            Second.edit(sheet, Edit { caller: clinic, ..edit })
         }
-        answer
-    }
-
-    /// The edit in which records are set as if they were others.
-    fn with_records_as(&self, sheet: &mut [u32], other: impl Fn(Words) -> Words) -> Answer {
-        let mut records = stored_records(sheet, self.slot);
-        let (inserted, cut_short) = self.inserted.as_chunks::<6>();
-        let changed: Vec<Words> = records.iter().map(|&record| other(record)).collect();
-        let mut changed_words: Vec<u32> = inserted.iter().flat_map(|&record| other(record)).collect();
-        changed_words.extend_from_slice(cut_short);
-
-        store_records(sheet, self.slot, &changed);
-        let answer = Second.edit(sheet, self.caller, self.slot, self.place, self.deleted, &changed_words);
-        if answer.number == 0 {
-            let place = self.place as usize;
-            records.splice(place..place + self.deleted as usize, inserted.iter().copied());
+        Fault::SlotWraps => Second.edit(sheet, Edit { slot: edit.slot % slots, ..edit }),
+        Fault::LooseLength => Second.edit(whole_slots(sheet), edit),
+        Fault::IndentForgotten => with_head_word(sheet, edit, 2, 0),
+        Fault::DeletionWraps if edit.place.checked_add(edit.deleted).is_none() => {
+            Second.edit(sheet, Edit { place: 0, deleted: 0, ..edit })
         }
-        store_records(sheet, self.slot, &records);
-        answer
+        _ => Second.edit(sheet, edit),
     }
+}
 
-    /// The answer and words where the fault lies in what comes out.
-    fn with_spoiled_output(&self, fault: Fault, sheet: &mut [u32], before: &[u32], answer: Answer) -> Answer {
-        let old = slot_words(before, self.slot).unwrap_or(&[]);
-        let Some(slot) = slot_words_mut(sheet, self.slot) else { return answer };
-        match (fault, answer.number) {
-            (Fault::RefuseAll, 0) => {
-                slot.copy_from_slice(old);
-                Answer { number: 10, place: 0 }
-            }
-            (Fault::NextSlot, 0) => {
-                spoil_next_slot(sheet, self.slot);
-                answer
-            }
-            (Fault::OldLineCount, 0) => {
-                slot[4] = old[4];
-                Answer { number: 0, place: old[4] }
-            }
-            (Fault::RefusalWrites, 10) => {
-                slot[5] = 1;
-                answer
-            }
-            (Fault::StoredUnjudged, 4) => Answer { number: 0, place: old[4] },
-            (_, 0) => {
-                spoil_slot(fault, slot, old);
-                answer
-            }
-            _ => self.spoiled_refusal(fault, old, answer),
-        }
+/// The edit of a slot in which a word of the head is another.
+fn with_head_word(sheet: &mut [u32], edit: Edit<'_>, at: usize, word: u32) -> Answer {
+    let Some(slot) = slot_words_mut(sheet, edit.slot) else {
+        return Second.edit(sheet, edit);
+    };
+    let kept = std::mem::replace(&mut slot[at], word);
+    let answer = Second.edit(sheet, edit);
+    if let Some(slot) = slot_words_mut(sheet, edit.slot) {
+        slot[at] = kept;
     }
+    answer
+}
 
-    fn spoiled_refusal(&self, fault: Fault, old: &[u32], answer: Answer) -> Answer {
-        let another = |number, place| Answer { number, place };
-        match (fault, answer.number) {
-            (Fault::DamageBeforeCaller, 3) if !(8..=1_000_000).contains(&old[1]) => another(4, 0),
-            (Fault::FiveNamesPlace, 5) => another(5, self.place),
-            (Fault::SevenBeforeSix, 6) if self.inserted.len() / 6 > 256 => another(7, 0),
-            (Fault::NineBeforeEight, 8) => match first_of_unequal_size(self.inserted) {
-                Some(at) => another(9, self.place + at),
-                None => answer,
-            },
-            (Fault::EightNamesInserted, 8) => another(8, answer.place - self.place),
-            (Fault::NineNamesGroup, 9) => another(9, answer.place - 1),
-            (Fault::TenNamesFirst, 10) => another(10, 0),
-            _ => answer,
+/// The edit in which records are set as if they were others.
+fn with_records_as(sheet: &mut [u32], edit: Edit<'_>, other: impl Fn(Words) -> Words) -> Answer {
+    let mut records = stored_records(sheet, edit.slot);
+    let (inserted, cut_short) = edit.inserted.as_chunks::<6>();
+    let changed: Vec<Words> = records.iter().map(|&record| other(record)).collect();
+    let mut changed_words: Vec<u32> = inserted.iter().flat_map(|&record| other(record)).collect();
+    changed_words.extend_from_slice(cut_short);
+
+    store_records(sheet, edit.slot, &changed);
+    let answer = Second.edit(sheet, Edit { inserted: &changed_words, ..edit });
+    if answer.number == 0 {
+        let place = edit.place as usize;
+        records.splice(place..place + edit.deleted as usize, inserted.iter().copied());
+    }
+    store_records(sheet, edit.slot, &records);
+    answer
+}
+
+/// The answer and words where the fault lies in what comes out.
+fn with_spoiled_output(
+    fault: Fault,
+    sheet: &mut [u32],
+    edit: Edit<'_>,
+    before: &[u32],
+    answer: Answer,
+) -> Answer {
+    let old = slot_words(before, edit.slot).unwrap_or(&[]);
+    let Some(slot) = slot_words_mut(sheet, edit.slot) else { return answer };
+    match (fault, answer.number) {
+        (Fault::RefuseAll, 0) => {
+            slot.copy_from_slice(old);
+            Answer { number: 10, place: 0 }
         }
+        (Fault::NextSlot, 0) => {
+            spoil_next_slot(sheet, edit.slot);
+            answer
+        }
+        (Fault::OldLineCount, 0) => {
+            slot[4] = old[4];
+            Answer { number: 0, place: old[4] }
+        }
+        (Fault::RefusalWrites, 10) => {
+            slot[5] = 1;
+            answer
+        }
+        (Fault::StoredUnjudged, 4) => Answer { number: 0, place: old[4] },
+        (_, 0) => {
+            spoil_slot(fault, slot, old);
+            answer
+        }
+        _ => spoiled_refusal(fault, edit, old, answer),
+    }
+}
+
+fn spoiled_refusal(fault: Fault, edit: Edit<'_>, old: &[u32], answer: Answer) -> Answer {
+    let another = |number, place| Answer { number, place };
+    match (fault, answer.number) {
+        (Fault::DamageBeforeCaller, 3) if !(8..=1_000_000).contains(&old[1]) => another(4, 0),
+        (Fault::FiveNamesPlace, 5) => another(5, edit.place),
+        (Fault::SevenBeforeSix, 6) if edit.inserted.len() / 6 > 256 => another(7, 0),
+        (Fault::NineBeforeEight, 8) => match first_of_unequal_size(edit.inserted) {
+            Some(at) => another(9, edit.place + at),
+            None => answer,
+        },
+        (Fault::EightNamesInserted, 8) => another(8, answer.place - edit.place),
+        (Fault::NineNamesGroup, 9) => another(9, answer.place - 1),
+        (Fault::TenNamesFirst, 10) => another(10, 0),
+        _ => answer,
     }
 }
 

@@ -8,11 +8,10 @@ mod slots;
 
 use std::ops::Range;
 
-use second::{Answer, RubyPlace};
+use second::{Answer, Edit, RubyPlace};
 
 use crate::layout::{LINES, SLOT};
 use crate::program::{Program, Second};
-use edits::Edit;
 use slots::{keep_all_but_heads, keep_texts, slot_words, whole_slots};
 
 /// A wrong program.
@@ -195,16 +194,8 @@ impl Program for Fault {
         answer
     }
 
-    fn edit(
-        &self,
-        sheet: &mut [u32],
-        caller: u32,
-        slot: u32,
-        place: u32,
-        deleted: u32,
-        inserted: &[u32],
-    ) -> Answer {
-        Edit { caller, slot, place, deleted, inserted }.with(*self, sheet)
+    fn edit(&self, sheet: &mut [u32], edit: Edit<'_>) -> Answer {
+        edits::with_fault(*self, sheet, edit)
     }
 
     fn read_number(&self, sheet: &[u32], caller: u32, slot: u32) -> u32 {

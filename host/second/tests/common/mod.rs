@@ -4,6 +4,7 @@
 #![allow(dead_code)]
 
 use second::sheet::SLOT_WORDS;
+use second::Edit;
 
 pub type Words = [u32; 6];
 
@@ -42,30 +43,21 @@ pub fn one_slot(measure: u32, indent: u32) -> Vec<u32> {
     sheet
 }
 
+/// The edit of slot 0 by `CLINIC`.
+pub fn own(place: u32, deleted: u32, inserted: &[u32]) -> Edit<'_> {
+    Edit { caller: CLINIC, slot: 0, place, deleted, inserted }
+}
+
 /// The answer of an edit as number and place.
-pub fn edit(
-    sheet: &mut [u32],
-    caller: u32,
-    slot: u32,
-    place: u32,
-    deleted: u32,
-    inserted: &[u32],
-) -> (u32, u32) {
-    let answer = second::edit(sheet, caller, slot, place, deleted, inserted);
+pub fn edit(sheet: &mut [u32], edit: Edit) -> (u32, u32) {
+    let answer = second::edit(sheet, edit);
     (answer.number, answer.place)
 }
 
 /// The answer of an edit that is refused, which changes no word.
-pub fn refused(
-    sheet: &mut [u32],
-    caller: u32,
-    slot: u32,
-    place: u32,
-    deleted: u32,
-    inserted: &[u32],
-) -> (u32, u32) {
+pub fn refused(sheet: &mut [u32], edit: Edit) -> (u32, u32) {
     let before = sheet.to_vec();
-    let answer = edit(sheet, caller, slot, place, deleted, inserted);
+    let answer = self::edit(sheet, edit);
     assert_ne!(answer.0, 0);
     assert_eq!(sheet, before);
     answer
@@ -74,7 +66,7 @@ pub fn refused(
 /// The answer of inserting records into an empty slot.
 pub fn compose(records: &[Words], measure: u32, indent: u32) -> (u32, u32) {
     let mut sheet = one_slot(measure, indent);
-    edit(&mut sheet, CLINIC, 0, 0, 0, &flat(records))
+    edit(&mut sheet, own(0, 0, &flat(records)))
 }
 
 /// Splitmix64: every seed gives a sequence of its own. Whatever fails while a sequence is in use, an
