@@ -79,8 +79,8 @@ pub data EndsWell : Run TextUnit → List TextUnit → Type 0 where
   at-end : {l : Run TextUnit} → EndsWell l []
   at-break : {l : Run TextUnit} {v : TextUnit} {vs : List TextUnit} → bound (lastIn l) v ≡ false → EndsWell l (v ∷ vs)
 
--- of the lines, each is the longest: with some of the units that follow it, up to where a line may end, it does not
--- fit
+-- of the lines, each is the longest: with any stretch of the units right after it, up to where a line may end, it does
+-- not fit
 pub data Longest (m : ℕ) : ℕ → List (Run TextUnit) → Type 0 where
   longest-none : {x : ℕ} → Longest m x []
   longest-more : {x : ℕ} {l : Run TextUnit} {ls : List (Run TextUnit)} →
