@@ -5,7 +5,7 @@ use native.Mathlib.Omega.{arith}
 use mathlib.Core.Bool.{Bool, cond}
 use mathlib.Core.List.{List, [], _∷_}
 use lib.Seq.{paste}
-use Rattle.rules.specs.Breaks.{Gap}
+use Rattle.rules.specs.Gaps.{Gap}
 use Rattle.rules.specs.Adjustment.{Amounts, natural, amounts, amountsOf, kindOf, lineOf}
 use Rattle.rules.specs.Values.{gapFrom}
 use Rattle.rules.proofs.Ends.{taken, at-most}

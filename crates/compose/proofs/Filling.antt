@@ -10,7 +10,8 @@ use lib.Seq.{take-suc-set, length-take-le}
 use borrow.Author.Tests.{le-leb, lt-leb}
 use Rattle.rules.specs.Basics.{Run, whole, then}
 use Rattle.rules.specs.Groups.{TextUnit, counts}
-use Rattle.rules.specs.Breaks.{gap as gapOf, least, width as widthOf, runs, filled, breaking}
+use Rattle.rules.specs.Gaps.{least}
+use Rattle.rules.specs.Breaks.{gap as gapOf, width as widthOf, runs, filled, breaking}
 use Rattle.rules.specs.Meanings.{lastIn}
 use Rattle.rules.proofs.NoBreaking.{counts-append}
 use Rattle.rules.proofs.Cuts.{last-append}

@@ -3,7 +3,7 @@ use mathlib.Core.Path.{_≡_}
 use Prim.Native.Nat.{ℕ, _+_, _*_, _/_, _^_, _≤_, _<_}
 use native.Mathlib.Omega.{arith}
 use native.Mathlib.Nat.{mul-le-mul, mul-le-mul-left, mul-comm, div-le-of-le-mul}
-use Rattle.rules.specs.Breaks.{Gap}
+use Rattle.rules.specs.Gaps.{Gap}
 use Rattle.rules.specs.Adjustment.{Amounts, plus, nothing}
 use Rattle.rules.proofs.GroupLimits.{GapBounds}
 use Rattle.rules.proofs.Shares.{share-up, share-cap, none-yet}

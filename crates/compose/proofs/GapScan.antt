@@ -5,7 +5,7 @@ use native.Mathlib.Omega.{arith}
 use mathlib.Core.List.{List}
 use lib.ListN.{length}
 use lib.Seq.{sets}
-use Rattle.rules.specs.Breaks.{Gap}
+use Rattle.rules.specs.Gaps.{Gap}
 use Rattle.compose.specs.Paragraph.{size, nextAt, gapAfter}
 use Rattle.compose.specs.Tables.{gapIn, gapWords}
 use Rattle.compose.proofs.Stored.{gap-stored, gap-kept, one-more}

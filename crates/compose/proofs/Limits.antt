@@ -6,7 +6,8 @@ use mathlib.Core.List.{List}
 use mathlib.Core.Logic.{inl, inr}
 use lib.ListN.{drop}
 use Rattle.rules.specs.Records.{recAt, records}
-use Rattle.rules.specs.Groups.{sameGroup, units, count, advances, baseTotal, advance, sideBy}
+use Rattle.rules.specs.Sides.{sideBy}
+use Rattle.rules.specs.Groups.{sameGroup, units, count, advances, baseTotal, advance}
 use Rattle.rules.specs.Breaks.{bound, smallest, width}
 use Rattle.rules.proofs.Facts.{tested, ordered}
 use Rattle.rules.proofs.Limits.{RecordBounds, record-bounds, records-ok}

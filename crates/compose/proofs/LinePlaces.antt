@@ -6,7 +6,8 @@ use native.Mathlib.Nat.{add-assoc}
 use mathlib.Core.List.{List, [], _∷_, _++_, map, append-nil}
 use lib.ListN.{length, getD}
 use Rattle.rules.specs.Groups.{count, counts, advance, baseOffsets}
-use Rattle.rules.specs.Breaks.{Gap, gap}
+use Rattle.rules.specs.Gaps.{Gap}
+use Rattle.rules.specs.Breaks.{gap}
 use Rattle.rules.specs.Adjustment.{Amounts, plus, nothing, totals, adjusted, placed, ending}
 use Rattle.rules.specs.Sheet.{placesOf}
 use Rattle.rules.proofs.GroupLimits.{GapBounds}

@@ -8,7 +8,8 @@ use mathlib.Core.Logic.{inl, inr}
 use lib.ListN.{getD}
 use Rattle.rules.specs.Basics.{alone, whole}
 use Rattle.rules.specs.Groups.{count, counts}
-use Rattle.rules.specs.Breaks.{gap as gapOf, bound, least, width as widthOf, runs}
+use Rattle.rules.specs.Gaps.{least}
+use Rattle.rules.specs.Breaks.{gap as gapOf, bound, width as widthOf, runs}
 use Rattle.rules.specs.Meanings.{lastIn}
 use Rattle.rules.proofs.Facts.{tested, ordered}
 use Rattle.compose.specs.Paragraph.{size, from, unitAt, nextAt, gapAfter, runAt, runEnd, Checked}

@@ -8,8 +8,11 @@ use lib.ListN.{length, getD}
 use lib.Seq.{sets}
 use Rattle.rules.specs.Basics.{alone, whole}
 use Rattle.rules.specs.Records.{recAt}
-use Rattle.rules.specs.Groups.{Side, sideBy, count, counts, advance}
-use Rattle.rules.specs.Breaks.{Gap, gap, gapOf, forbidden, bound, least, smallest, width}
+use Rattle.rules.specs.Sides.{Side, sideBy}
+use Rattle.rules.specs.Groups.{count, counts, advance}
+use Rattle.rules.specs.Sides.{forbidden}
+use Rattle.rules.specs.Gaps.{Gap, gapOf, least}
+use Rattle.rules.specs.Breaks.{gap, bound, smallest, width}
 use Rattle.rules.specs.Meanings.{lastIn}
 use Rattle.rules.proofs.GroupLimits.{GapBounds}
 use Rattle.compose.specs.Paragraph.{size, unitAt, nextAt, gapAfter, runAt, runEnd}

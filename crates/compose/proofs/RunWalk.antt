@@ -8,8 +8,11 @@ use mathlib.Core.List.{List, [], _∷_, _++_}
 use mathlib.Core.Logic.{inl, inr}
 use Rattle.rules.specs.Basics.{alone, whole, then, joined, tie, cut}
 use Rattle.rules.specs.Records.{recAt}
-use Rattle.rules.specs.Groups.{TextUnit, count, counts, advance, sideBy}
-use Rattle.rules.specs.Breaks.{Gap, gap, forbidden, bound, least, smallest, width, runs}
+use Rattle.rules.specs.Sides.{sideBy}
+use Rattle.rules.specs.Groups.{TextUnit, count, counts, advance}
+use Rattle.rules.specs.Sides.{forbidden}
+use Rattle.rules.specs.Gaps.{Gap, least}
+use Rattle.rules.specs.Breaks.{gap, bound, smallest, width, runs}
 use Rattle.rules.specs.Meanings.{lastIn}
 use Rattle.rules.proofs.Facts.{ordered, nil-cons}
 use Rattle.rules.proofs.Cuts.{cut-joined, cut-first, cut-tail}

@@ -6,7 +6,7 @@ use mathlib.Core.List.{List, [], _∷_}
 use mathlib.Core.Logic.{_⊎_, inl, inr}
 use lib.ListN.{length, getD, set, length-set}
 use lib.Seq.{sets, getD-set-same, getD-set-other}
-use Rattle.rules.specs.Breaks.{Gap}
+use Rattle.rules.specs.Gaps.{Gap}
 use Rattle.rules.proofs.Facts.{ordered}
 use Rattle.compose.specs.Tables.{gapIn, gapWords}
 

@@ -14,7 +14,8 @@ use lib.ListN.{length}
 use lib.Seq.{paste}
 use Rattle.rules.specs.Basics.{Run, whole}
 use Rattle.rules.specs.Groups.{TextUnit, count, counts, baseOffsets}
-use Rattle.rules.specs.Breaks.{Gap, width}
+use Rattle.rules.specs.Gaps.{Gap}
+use Rattle.rules.specs.Breaks.{width}
 use Rattle.rules.specs.Adjustment.{Amounts, Line, nothing, gapsOf, unitAdvances, placed, ending, lineOf}
 use Rattle.rules.specs.Sheet.{placesOf}
 use Rattle.rules.specs.Values.{gapFrom}

@@ -15,8 +15,10 @@ use mathlib.Core.Option.{Option, none, some}
 use lib.ListN.{length}
 use Rattle.rules.specs.Basics.{Run, alone, whole}
 use Rattle.rules.specs.Records.{Rec, recAt, records, badRecord}
-use Rattle.rules.specs.Groups.{TextUnit, units, count, counts, groupFault, sideBy}
-use Rattle.rules.specs.Breaks.{Gap, gapOf, runs}
+use Rattle.rules.specs.Sides.{sideBy}
+use Rattle.rules.specs.Groups.{TextUnit, units, count, counts, groupFault}
+use Rattle.rules.specs.Gaps.{Gap, gapOf}
+use Rattle.rules.specs.Breaks.{runs}
 
 abbrev pub size : List ℕ → ℕ
 size ws = length ws / 6

@@ -11,7 +11,8 @@ use mathlib.Core.List.{List, [], _∷_}
 use lib.ListN.{getD}
 use Rattle.rules.specs.Basics.{whole}
 use Rattle.rules.specs.Groups.{count, counts, baseTotal, advance}
-use Rattle.rules.specs.Breaks.{Gap, gap as gapOf, least, width as widthOf}
+use Rattle.rules.specs.Gaps.{Gap, least}
+use Rattle.rules.specs.Breaks.{gap as gapOf, width as widthOf}
 use Rattle.rules.specs.Meanings.{lastIn}
 use Rattle.rules.specs.Values.{gapFrom}
 use Rattle.compose.specs.Paragraph.{size, unitAt, nextAt, gapAfter, runAt, runEnd, Checked}

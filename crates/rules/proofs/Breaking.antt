@@ -10,7 +10,8 @@ use lib.Dec.{leb}
 use borrow.Author.Tests.{leb-true, le-leb}
 use Rattle.rules.specs.Basics.{Run, alone, whole, then, joined, tie, cut}
 use Rattle.rules.specs.Groups.{TextUnit, advance, counts}
-use Rattle.rules.specs.Breaks.{bound, gap, least, smallest, width, runs, wideRun, noBreaking, filled, breaking}
+use Rattle.rules.specs.Gaps.{least}
+use Rattle.rules.specs.Breaks.{bound, gap, smallest, width, runs, wideRun, noBreaking, filled, breaking}
 use Rattle.rules.specs.Meanings.{Apart, apart-none, apart-one, apart-more, Choice, Fits, fits-none, fits-more}
 use Rattle.rules.proofs.Facts.{tested, some-none}
 use Rattle.rules.proofs.Cuts.{last-append, cut-joined, cut-apart, cut-first, cut-split}

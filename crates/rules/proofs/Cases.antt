@@ -11,7 +11,7 @@ use lib.Dec.{eqb}
 use Rattle.rules.specs.Basics.{zeros}
 use Rattle.rules.specs.Records.{Rec, recordWords}
 use Rattle.rules.specs.Groups.{TextUnit, units, baseTotal, rubyPlace}
-use Rattle.rules.specs.Breaks.{forbidden}
+use Rattle.rules.specs.Sides.{forbidden}
 use Rattle.rules.specs.Adjustment.{compose}
 use Rattle.rules.specs.Sheet.{placeWords, lineWords, slotWords}
 use Rattle.rules.specs.Refusals.{judged}

@@ -10,7 +10,8 @@ use lib.ListN.{length, getD}
 use Rattle.rules.specs.Basics.{Run, whole}
 use Rattle.rules.specs.Records.{Rec}
 use Rattle.rules.specs.Groups.{TextUnit, sameGroup, units, advance, groupAdvance, baseOffsets, rubyOffset}
-use Rattle.rules.specs.Breaks.{Gap, bound, width, runs, noBreaking, breaking}
+use Rattle.rules.specs.Gaps.{Gap}
+use Rattle.rules.specs.Breaks.{bound, width, runs, noBreaking, breaking}
 use Rattle.rules.specs.Adjustment.{amountsOf, totals, natural, lineOf}
 use Rattle.rules.specs.Meanings.{All, lastOf, Maximal, Boundary, OneUnit, Choice, Fits, Longest, FirstWide}
 use Rattle.rules.specs.Meanings.{GapAt, WithinLimits, FirstStageFull}

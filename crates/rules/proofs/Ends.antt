@@ -9,7 +9,8 @@ use lib.Dec.{ltb, eqb}
 use borrow.Author.Tests.{ltb-true, ltb-false, eqb-true, eqb-false}
 use Rattle.rules.specs.Basics.{Run}
 use Rattle.rules.specs.Groups.{TextUnit}
-use Rattle.rules.specs.Breaks.{Gap, width}
+use Rattle.rules.specs.Gaps.{Gap}
+use Rattle.rules.specs.Breaks.{width}
 use Rattle.rules.specs.Adjustment.{Amounts, amounts, amountsOf, nothing, gapsOf, natural}
 use Rattle.rules.specs.Adjustment.{kindOf, lineOf}
 use Rattle.rules.proofs.Facts.{tested}

@@ -7,7 +7,8 @@ use mathlib.Core.Bool.{Bool}
 use mathlib.Core.List.{List}
 use Rattle.rules.specs.Basics.{Run}
 use Rattle.rules.specs.Groups.{TextUnit}
-use Rattle.rules.specs.Breaks.{Gap, width}
+use Rattle.rules.specs.Gaps.{Gap}
+use Rattle.rules.specs.Breaks.{width}
 use Rattle.rules.specs.Adjustment.{amountsOf, share, totals, gapsOf}
 use Rattle.rules.specs.Meanings.{GapAt, gap-here, gap-later, WithinLimits, FirstStageFull}
 use Rattle.rules.proofs.Shares.{share-cap, full-share}

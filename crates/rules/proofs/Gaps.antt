@@ -4,7 +4,7 @@ use mathlib.Core.Path.{_≡_, refl}
 use Prim.Native.Nat.{ℕ}
 use native.Mathlib.Nat.{add-zero, zero-add}
 use Rattle.rules.specs.Space.{Fraction, no-part, spaced, measured}
-use Rattle.rules.specs.Breaks.{Flexibility, early, late, rigid, gapBy}
+use Rattle.rules.specs.Gaps.{Flexibility, early, late, rigid, gapBy}
 use Rattle.rules.specs.Values.{rigidGap}
 
 -- where no space is set, nothing gives way

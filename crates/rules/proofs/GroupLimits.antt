@@ -11,9 +11,11 @@ use lib.ListN.{drop}
 use borrow.Author.Tests.{ltb-true}
 use Rattle.rules.specs.Basics.{cut}
 use Rattle.rules.specs.Records.{Rec}
-use Rattle.rules.specs.Groups.{TextUnit, sameGroup, badGroup, groupFault, units, count, groupAdvance, Side}
+use Rattle.rules.specs.Sides.{Side}
+use Rattle.rules.specs.Groups.{TextUnit, sameGroup, badGroup, groupFault, units, count, groupAdvance}
 use Rattle.rules.specs.Space.{Fraction, no-part, eighth, quarter, half, part, Space, measured}
-use Rattle.rules.specs.Breaks.{Flexibility, early, late, rigid, brought, Gap, gapBy, gapOf, weight, forbidden}
+use Rattle.rules.specs.Sides.{forbidden}
+use Rattle.rules.specs.Gaps.{Flexibility, early, late, rigid, brought, Gap, gapBy, gapOf, weight}
 use Rattle.rules.proofs.Bounds.{rubyTotal-small}
 use Rattle.rules.proofs.Cuts.{cut-first}
 use Rattle.rules.proofs.Facts.{tested, some-none}

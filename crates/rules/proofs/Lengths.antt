@@ -8,7 +8,8 @@ use lib.ListN.{length, length-append, length-map}
 use Rattle.rules.specs.Basics.{Run, whole, joined}
 use Rattle.rules.specs.Records.{Rec}
 use Rattle.rules.specs.Groups.{TextUnit, units, count, counts, advance, offsets, baseOffsets, sameGroup}
-use Rattle.rules.specs.Breaks.{Gap, gap, runs, breaking}
+use Rattle.rules.specs.Gaps.{Gap}
+use Rattle.rules.specs.Breaks.{gap, runs, breaking}
 use Rattle.rules.specs.Adjustment.{Amounts, Line, plus, adjusted, placed, lineOf, linesOf, compose, isEmpty}
 use Rattle.rules.specs.Sheet.{placesOf, placeWords, lineWords}
 use Rattle.rules.proofs.Cuts.{cut-joined}

@@ -6,7 +6,8 @@ use native.Mathlib.Nat.{le-refl, le-trans, div-zero, zero-div, div-mul-le-self, 
 use native.Mathlib.Nat.{mul-div-left, mul-le-mul-left, mul-add, mul-comm, mul-zero}
 use mathlib.Core.List.{List, [], _∷_}
 use Rattle.rules.specs.Groups.{TextUnit, advance}
-use Rattle.rules.specs.Breaks.{Gap, gap}
+use Rattle.rules.specs.Gaps.{Gap}
+use Rattle.rules.specs.Breaks.{gap}
 use Rattle.rules.specs.Adjustment.{Amounts, share, adjusted, plus, totals, unitAdvances, ending}
 use Rattle.rules.proofs.Widths.{gives}
 

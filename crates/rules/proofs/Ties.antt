@@ -8,8 +8,8 @@ use mathlib.Core.Logic.{inl, inr}
 use lib.Dec.{leb, eqb}
 use borrow.Author.Tests.{leb-true, leb-false, le-leb, lt-leb, eq-eqb, ne-eqb}
 use Rattle.rules.specs.Basics.{isIn, within}
-use Rattle.rules.specs.Groups.{Side}
-use Rattle.rules.specs.Breaks.{forbidden}
+use Rattle.rules.specs.Sides.{Side}
+use Rattle.rules.specs.Sides.{forbidden}
 use Rattle.rules.proofs.Facts.{ordered}
 
 -- 2 to 11 without 8 are 2 to 7, 9, 10 and 11

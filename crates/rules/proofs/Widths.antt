@@ -5,7 +5,8 @@ use native.Mathlib.Omega.{arith}
 use mathlib.Core.List.{List, [], _∷_, _++_}
 use Rattle.rules.specs.Groups.{TextUnit}
 use Rattle.rules.specs.Space.{Space}
-use Rattle.rules.specs.Breaks.{Flexibility, early, late, rigid, gapBy, gapOf, gap, least, smallest}
+use Rattle.rules.specs.Gaps.{Flexibility, early, late, rigid, gapBy, gapOf, least}
+use Rattle.rules.specs.Breaks.{gap, smallest}
 use Rattle.rules.specs.Adjustment.{totals, unitAdvances}
 use Rattle.rules.specs.Meanings.{lastOf}
 

@@ -12,7 +12,8 @@ use mathlib.Core.List.{List, [], _∷_, _++_, map}
 use lib.Dec.{ltb, eqb}
 use Rattle.rules.specs.Basics.{Run, whole}
 use Rattle.rules.specs.Groups.{TextUnit, advance, counts, baseOffsets}
-use Rattle.rules.specs.Breaks.{Gap, gap, runs, breaking}
+use Rattle.rules.specs.Gaps.{Gap}
+use Rattle.rules.specs.Breaks.{gap, runs, breaking}
 
 -- gaps added up, field by field
 abbrev pub plus : Gap → Gap → Gap

@@ -3,10 +3,13 @@
 use Rattle.rules.specs.Basics.{joined, cut, zeros}
 use Rattle.rules.specs.Records.{codeOk, classes, classOk, rowOf, sizeOk, advanceKind, advanceOk, groupOk, recOk}
 use Rattle.rules.specs.Records.{badRecord, records, recordWords}
-use Rattle.rules.specs.Groups.{badGroup, groupFault, units, counts, sideBy, advances, groupAdvance, advance}
+use Rattle.rules.specs.Sides.{sideBy}
+use Rattle.rules.specs.Groups.{badGroup, groupFault, units, counts, advances, groupAdvance, advance}
 use Rattle.rules.specs.Groups.{shift, baseOffset, offsets, baseOffsets, rubyOffset, rubyPlace}
 use Rattle.rules.specs.Space.{ruleOf, measured, spaceBy, spaceOf}
-use Rattle.rules.specs.Breaks.{forbidden, flexibility, gapBy, weight, gapOf, smallest, runs, wideRun}
+use Rattle.rules.specs.Sides.{forbidden}
+use Rattle.rules.specs.Gaps.{flexibility, gapBy, weight, gapOf}
+use Rattle.rules.specs.Breaks.{smallest, runs, wideRun}
 use Rattle.rules.specs.Breaks.{noBreaking, filled, breaking}
 use Rattle.rules.specs.Adjustment.{totals, unitAdvances, amounts, amountsOf, placed, ending, kindOf, lineOf}
 use Rattle.rules.specs.Adjustment.{linesOf, compose}

@@ -4,9 +4,7 @@
 --   unit         a group or a single record
 --   base row     親文字列, the records of a group; ruby row, ルビ文字列, its ruby characters, half as large
 --   solid        each item directly after the one before, from 0
---   side         what of a unit its neighbours see: class, size and code point
 --
--- A code point matters only beside class 8, and a group counts as class 19: the first record's serves for a group.
 -- Assumes nothing.
 use Prim.Native.Nat.{ℕ, suc, _+_, _*_, _-_, _/_, max}
 use mathlib.Core.Bool.{Bool, true, false, cond, not, _&&_}
@@ -16,6 +14,7 @@ use lib.Dec.{ltb, eqb}
 use lib.ListN.{length}
 use Rattle.rules.specs.Basics.{within, Run, whole, cut}
 use Rattle.rules.specs.Records.{Rec, sizeOk}
+use Rattle.rules.specs.Sides.{Side, sideBy}
 
 -- "Neighbouring records with the same non-zero group are one group"
 abbrev pub joins : ℕ → ℕ → Bool
@@ -57,15 +56,7 @@ unfoldable pub counts : List TextUnit → ℕ
 counts [] = 0
 counts (u ∷ us) = count u + counts us
 
-pub record Side : Type 0 where
-  pub class : ℕ
-  pub size : ℕ
-  pub code : ℕ
-
--- "A group counts as class 19." The first record tells a unit's side
-unfoldable pub sideBy : Rec → Side
-sideBy r = record { class = cond (eqb (r .group) 0) (r .class) 19; size = r .size; code = r .code }
-
+-- what a unit's neighbours see of it: its first record's side
 abbrev pub side : TextUnit → Side
 side u = sideBy (u .first)
 

@@ -2,8 +2,10 @@
 -- mean, said without their algorithms, is `Meanings`.
 pub mod Basics
 pub mod Records
-pub mod Groups
 pub mod Space
+pub mod Sides
+pub mod Gaps
+pub mod Groups
 pub mod Breaks
 pub mod Adjustment
 pub mod Sheet

@@ -15,7 +15,8 @@ use mathlib.Core.Bool.{Bool, true, false}
 use mathlib.Core.List.{List, [], _∷_, _++_}
 use Rattle.rules.specs.Basics.{Run, whole, then, joined}
 use Rattle.rules.specs.Groups.{TextUnit, counts}
-use Rattle.rules.specs.Breaks.{bound, width, Gap, gap, least}
+use Rattle.rules.specs.Gaps.{Gap, least}
+use Rattle.rules.specs.Breaks.{bound, width, gap}
 use Rattle.rules.specs.Adjustment.{plus, nothing, Amounts, share, adjusted}
 
 -- every element of a list has a property

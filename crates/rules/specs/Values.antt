@@ -15,10 +15,10 @@ use lib.Dec.{eqb}
 use Rattle.rules.specs.Basics.{isIn}
 use Rattle.rules.specs.Records.{Rec, recOf, rowOf, advanceKind}
 use Rattle.rules.specs.Records.{AdvanceKind, half-size, to-size, to-twice, full-size}
-use Rattle.rules.specs.Groups.{Side}
+use Rattle.rules.specs.Sides.{Side}
 use Rattle.rules.specs.Space.{Rule, rule-a, rule-b, rule-c, rule-d, rule-e, rule-f, rule-g, rule-h, rule-i}
 use Rattle.rules.specs.Space.{rule-j, rule-k, spaceBy}
-use Rattle.rules.specs.Breaks.{flexibility, gapBy, Gap}
+use Rattle.rules.specs.Gaps.{flexibility, gapBy, Gap}
 use Rattle.rules.specs.declared.records.Record.{Record}
 use Rattle.rules.specs.declared.records.ClassRow.{ClassRow}
 use Rattle.rules.specs.declared.records.AdvanceKind.{AdvanceKind as KindValue}

@@ -2,7 +2,8 @@
 ghost use mathlib.Core.Path.{_≡_};
 ghost use mathlib.Core.Bool.{cond};
 ghost use Rattle.rules.specs.Space.{rule-f, rule-g, rule-h, no-part, quarter, half, spaced};
-ghost use Rattle.rules.specs.Breaks.{forbidden, early, late, gapBy, weight as weightOf, gapOf};
+ghost use Rattle.rules.specs.Sides.{forbidden};
+ghost use Rattle.rules.specs.Gaps.{early, late, gapBy, weight as weightOf, gapOf};
 ghost use Rattle.rules.specs.Values.{sideOf, gapFrom, ruleFrom, rigidGap, gapUnder};
 use crate::basics::between;
 use crate::basics::one_of2;

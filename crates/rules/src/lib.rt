@@ -1,4 +1,4 @@
-// The leaf functions of the rules, a module to a section of document 01, as in specs/.
+// The leaf functions of the rules, a module to a section of document 01.
 mod basics;
 mod breaks;
 mod groups;

@@ -2,7 +2,7 @@
 use mathlib.Core.Path.{ap}
 use borrow.Author.Needs.{needs}
 use borrow.Author.Tests.{eq-eqb, ne-eqb}
-use Rattle.rules.specs.Groups.{sideBy}
+use Rattle.rules.specs.Sides.{sideBy}
 use Rattle.compose.proofs.tables.side_at.Statement.{statement}
 use Rattle.compose.proofs.tables.side_at.Tie as tie
 

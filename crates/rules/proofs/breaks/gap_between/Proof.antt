@@ -1,7 +1,7 @@
 -- `rules::breaks::gap_between` meets its contract. Assumes nothing.
 use borrow.Author.Needs.{needs}
 use Rattle.rules.specs.Space.{spaceOf}
-use Rattle.rules.specs.Breaks.{gapOf}
+use Rattle.rules.specs.Gaps.{gapOf}
 use Rattle.rules.proofs.breaks.gap_between.Statement.{statement}
 use Rattle.rules.proofs.breaks.gap_between.Tie as tie
 

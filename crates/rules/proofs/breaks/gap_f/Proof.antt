@@ -1,7 +1,7 @@
 -- `rules::breaks::gap_f` meets its contract. Assumes nothing.
 use borrow.Author.Needs.{needs}
 use Rattle.rules.specs.Space.{measured, spaceBy}
-use Rattle.rules.specs.Breaks.{flexibility, gapBy}
+use Rattle.rules.specs.Gaps.{flexibility, gapBy}
 use Rattle.rules.proofs.breaks.gap_f.Statement.{statement}
 use Rattle.rules.proofs.breaks.gap_f.Tie as tie
 

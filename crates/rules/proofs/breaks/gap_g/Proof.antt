@@ -4,7 +4,7 @@ use mathlib.Core.Path.{sym}
 use borrow.Author.Tests.{eq-eqb, ne-eqb}
 use native.Mathlib.Nat.{add-zero}
 use Rattle.rules.specs.Space.{measured, spaceBy}
-use Rattle.rules.specs.Breaks.{flexibility, gapBy}
+use Rattle.rules.specs.Gaps.{flexibility, gapBy}
 use Rattle.rules.proofs.Gaps.{gapBy-nothing}
 use Rattle.rules.proofs.breaks.gap_g.Statement.{statement}
 use Rattle.rules.proofs.breaks.gap_g.Tie as tie

@@ -3,7 +3,7 @@ use borrow.Author.Needs.{needs}
 use mathlib.Core.Path.{sym}
 use borrow.Author.Tests.{eq-eqb, ne-eqb}
 use Rattle.rules.specs.Space.{spaceBy}
-use Rattle.rules.specs.Breaks.{flexibility}
+use Rattle.rules.specs.Gaps.{flexibility}
 use Rattle.rules.proofs.Gaps.{gapBy-nothing, gapBy-right}
 use Rattle.rules.proofs.breaks.gap_h.Statement.{statement}
 use Rattle.rules.proofs.breaks.gap_h.Tie as tie

@@ -2,7 +2,7 @@
 use borrow.Author.Needs.{needs}
 use native.Mathlib.Nat.{add-zero}
 use Rattle.rules.specs.Space.{measured}
-use Rattle.rules.specs.Breaks.{gapBy}
+use Rattle.rules.specs.Gaps.{gapBy}
 use Rattle.rules.proofs.breaks.late_gap.Statement.{statement}
 use Rattle.rules.proofs.breaks.late_gap.Tie as tie
 

@@ -3,7 +3,7 @@ use borrow.Author.Needs.{needs}
 use mathlib.Core.Path.{sym}
 use native.Mathlib.Nat.{add-zero, zero-add}
 use Rattle.rules.specs.Space.{measured, spaceBy}
-use Rattle.rules.specs.Breaks.{flexibility, gapBy}
+use Rattle.rules.specs.Gaps.{flexibility, gapBy}
 use Rattle.rules.proofs.Gaps.{gapBy-right}
 use Rattle.rules.proofs.breaks.rule_gap.Statement.{statement}
 use Rattle.rules.proofs.breaks.rule_gap.Tie as tie

@@ -1,6 +1,6 @@
 -- `rules::breaks::weight_of` meets its contract. Assumes nothing.
 use borrow.Author.Needs.{needs}
-use Rattle.rules.specs.Breaks.{weight}
+use Rattle.rules.specs.Gaps.{weight}
 use Rattle.rules.proofs.breaks.weight_of.Statement.{statement}
 use Rattle.rules.proofs.breaks.weight_of.Tie as tie
 
