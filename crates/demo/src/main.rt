@@ -32,7 +32,7 @@ fn set_up_clinics(sheet: &mut [u32]) {
     let measures = [550, 560, 400];
     let indents = [80, 80, 0];
     let answer = sheet::set_up(sheet, &clinics, &measures, &indents);
-    print_answer(answer, b" slots");
+    print_answer(answer.number, answer.place, b" slots");
 }
 
 // Shows a text, and what the sheet answers when it comes in at a place for the records that are deleted there.
@@ -50,7 +50,7 @@ fn write(
     let n = put_records(text, ruby, &mut words);
     let inserted = first_words(&words, n);
     let answer = sheet::edit(sheet, caller, slot, place, deleted, inserted);
-    print_answer(answer, b" lines");
+    print_answer(answer.number, answer.place, b" lines");
 }
 
 // Line 0 shrinks the space before its bracket. Line 1 would have room for 500, but not for 500mg, which never breaks:
@@ -83,7 +83,7 @@ fn try_refused_edits(sheet: &mut [u32]) {
     say(b"Clinic 7 inserts a comma that is as wide as a kanji, before record 22 of slot 0.\n");
     let comma = [0x3001, 7, SIZE, SIZE, 0, 0];
     let answer = sheet::edit(sheet, Clinic(7), SlotNumber(0), 22, 0, &comma);
-    print_answer(answer, b" lines");
+    print_answer(answer.number, answer.place, b" lines");
     say(b"Clinic 9 writes a word that is wider than its measure into slot 2.\n");
     write(sheet, Clinic(9), SlotNumber(2), 0, 0, &LONG_WORD, NO_RUBY);
 }

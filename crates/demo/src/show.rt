@@ -2,7 +2,6 @@
 use crate::texts::code_at;
 use crate::utf8::encode;
 use libc::STDOUT_FILENO;
-use sheet::Answer;
 use sheet::RubyPlace;
 
 pub(crate) fn say(text: &[u8]) {
@@ -71,15 +70,15 @@ pub(crate) fn print_refusal(number: u32) {
 }
 
 // What set-up or edit answered: how many slots or lines there are, or a refusal and its place.
-pub(crate) fn print_answer(answer: Answer, counted: &[u8]) {
-    if answer.number == 0 {
+pub(crate) fn print_answer(number: u32, place: u32, counted: &[u8]) {
+    if number == 0 {
         say(b"  accepted: ");
-        print_number(answer.place);
+        print_number(place);
         say(counted);
     } else {
-        print_refusal(answer.number);
+        print_refusal(number);
         say(b" Place ");
-        print_number(answer.place);
+        print_number(place);
     }
     say(b".\n");
 }

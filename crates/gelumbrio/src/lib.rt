@@ -2,12 +2,13 @@
 // declares them is include/gelumbrio.h.
 use sheet::Answer;
 use sheet::Clinic;
+use sheet::EditAnswer;
 use sheet::Part;
 use sheet::RubyPlace;
 use sheet::SlotNumber;
 ghost use mathlib.Core.Path.{_≡_};
 ghost use Rattle.rules.specs.Groups.{rubyPlace};
-ghost use Rattle.rules.specs.Refusals.{says, setUp, edit, readNumber, readPart};
+ghost use Rattle.rules.specs.Refusals.{says, editSays, setUp, edit, readNumber, readPart};
 
 #[no_mangle]
 pub extern "C" fn gelumbrio_set_up(
@@ -30,8 +31,8 @@ pub extern "C" fn gelumbrio_edit(
     place: u32,
     deleted: u32,
     inserted: &[u32],
-) -> Answer
-    ensures { λ r. ⌜ (says (r .number) (r .place), now (sheet .exit)) ≡
+) -> EditAnswer
+    ensures { λ r. ⌜ (editSays (r .number) (r .place), now (sheet .exit)) ≡
         edit (now (sheet .entry)) (caller .0) (slot .0) place deleted (now (inserted .entry)) ⌝ }
 {
     sheet::edit(sheet, caller, slot, place, deleted, inserted)
@@ -39,7 +40,8 @@ pub extern "C" fn gelumbrio_edit(
 
 #[no_mangle]
 pub extern "C" fn gelumbrio_read_number(sheet: &[u32], caller: Clinic, slot: SlotNumber) -> u32
-    ensures { λ r. ⌜ r ≡ readNumber (now (sheet .entry)) (caller .0) (slot .0) ⌝ }
+    ensures number { λ r. ⌜ r ≡ readNumber (now (sheet .entry)) (caller .0) (slot .0) ⌝ }
+    ensures kept { λ _. ⌜ now (sheet .exit) ≡ now (sheet .entry) ⌝ }
 {
     sheet::read_number(sheet, caller, slot)
 }
@@ -47,7 +49,8 @@ pub extern "C" fn gelumbrio_read_number(sheet: &[u32], caller: Clinic, slot: Slo
 // The part is told by its start and end, since an export cannot return a reference.
 #[no_mangle]
 pub extern "C" fn gelumbrio_read(sheet: &[u32], caller: Clinic, slot: SlotNumber) -> Part
-    ensures { λ r. ⌜ (r .start, r .end) ≡ readPart (now (sheet .entry)) (caller .0) (slot .0) ⌝ }
+    ensures part { λ r. ⌜ (r .start, r .end) ≡ readPart (now (sheet .entry)) (caller .0) (slot .0) ⌝ }
+    ensures kept { λ _. ⌜ now (sheet .exit) ≡ now (sheet .entry) ⌝ }
 {
     sheet::read_part(sheet, caller, slot)
 }

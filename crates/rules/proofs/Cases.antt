@@ -13,7 +13,7 @@ use Rattle.rules.specs.Records.{Rec, recordWords}
 use Rattle.rules.specs.Groups.{TextUnit, units, baseTotal, rubyPlace}
 use Rattle.rules.specs.Sides.{forbidden}
 use Rattle.rules.specs.Adjustment.{compose}
-use Rattle.rules.specs.Sheet.{placeWords, lineWords, slotWords}
+use Rattle.rules.specs.Sheet.{placeWords, lineWords, setting, slotWords}
 use Rattle.rules.specs.Refusals.{judged}
 use Rattle.rules.specs.Computed.{computed}
 
@@ -117,7 +117,7 @@ unfolding computed rubyFrom rubies given rows same right
 cases-hold = refl
 
 -- C3 whole: the 2,824 words of the slot, of a clinic 7
-pub c3-whole : slotWords 7 440 0 (K ∷ K ∷ K ∷ K ∷ K ∷ K ∷ []) ≡
+pub c3-whole : slotWords (setting 7 440 0) (K ∷ K ∷ K ∷ K ∷ K ∷ K ∷ []) ≡
     (7 ∷ 440 ∷ 0 ∷ 6 ∷ 2 ∷ 0 ∷ 0 ∷ 0 ∷ [])
     ++ (recordWords (K ∷ K ∷ K ∷ K ∷ K ∷ K ∷ []) ++ zeros 1500)
     ++ ((0 ∷ 0 ∷ 90 ∷ 0 ∷ 180 ∷ 0 ∷ 270 ∷ 0 ∷ 360 ∷ 0 ∷ 0 ∷ 1 ∷ []) ++ zeros 500)

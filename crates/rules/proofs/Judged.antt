@@ -1,6 +1,7 @@
--- What an answer to records tells of them: 0 that a breaking exists, with the line count; 10 where none does.
+-- What an answer to records tells of them: 0 that a breaking exists, with the line count; 10 that none does; either
+-- that 8 and 9 are not due.
 -- Assumes nothing.
-use mathlib.Core.Path.{_≡_, refl}
+use mathlib.Core.Path.{_≡_, refl, sym}
 use Prim.Native.Nat.{ℕ}
 use native.Mathlib.Omega.{arith}
 use mathlib.Core.List.{List}
@@ -27,7 +28,20 @@ by-10 none none (some i) n e = refl
 by-10 none (some i) r n e = absurd (omega (arith, e))
 by-10 (some i) q r n e = absurd (omega (arith, e))
 
+by-passes : (p q r : Option ℕ) (n k : ℕ) → (k ≡ 8 → ⊥) → (k ≡ 9 → ⊥) → by p q r n .number ≡ k →
+    (p ≡ none) × (q ≡ none)
+by-passes none none r n k f g e = (refl, refl)
+by-passes none (some i) r n k f g e = absurd (g (sym e))
+by-passes (some i) q r n k f g e = absurd (f (sym e))
+
 module _ (m x : ℕ) (rs : List Rec) where
+  -- a number that is neither 8 nor 9 is given only where these are not due
+  pub judged-passes : (k : ℕ) → (k ≡ 8 → ⊥) → (k ≡ 9 → ⊥) → judged m x rs .number ≡ k →
+      (badRecord 0 rs ≡ none) × (groupFault rs ≡ none)
+  unfolding judged
+  judged-passes k f g e =
+      by-passes (badRecord 0 rs) (groupFault rs) (noBreaking m x (units rs)) (length (compose m x (units rs))) k f g e
+
   pub judged-0 : judged m x rs .number ≡ 0 →
       (noBreaking m x (units rs) ≡ none) × (judged m x rs ≡ says 0 (length (compose m x (units rs))))
   unfolding judged

@@ -3,19 +3,18 @@
 use Rattle.rules.specs.Basics.{joined, cut, zeros}
 use Rattle.rules.specs.Records.{codeOk, classes, classOk, rowOf, sizeOk, advanceKind, advanceOk, groupOk, recOk}
 use Rattle.rules.specs.Records.{badRecord, records, recordWords}
-use Rattle.rules.specs.Sides.{sideBy}
+use Rattle.rules.specs.Space.{ruleOf, measured, spaceBy, spaceOf}
+use Rattle.rules.specs.Sides.{sideBy, forbidden}
+use Rattle.rules.specs.Gaps.{flexibility, gapBy, weight, gapOf}
 use Rattle.rules.specs.Groups.{badGroup, groupFault, units, counts, advances, groupAdvance, advance}
 use Rattle.rules.specs.Groups.{shift, baseOffset, offsets, baseOffsets, rubyOffset, rubyPlace}
-use Rattle.rules.specs.Space.{ruleOf, measured, spaceBy, spaceOf}
-use Rattle.rules.specs.Sides.{forbidden}
-use Rattle.rules.specs.Gaps.{flexibility, gapBy, weight, gapOf}
-use Rattle.rules.specs.Breaks.{smallest, runs, wideRun}
-use Rattle.rules.specs.Breaks.{noBreaking, filled, breaking}
+use Rattle.rules.specs.Breaks.{smallest, runs, wideRun, noBreaking, filled, breaking}
 use Rattle.rules.specs.Adjustment.{totals, unitAdvances, amounts, amountsOf, placed, ending, kindOf, lineOf}
 use Rattle.rules.specs.Adjustment.{linesOf, compose}
 use Rattle.rules.specs.Sheet.{placesOf, placeWords, lineWords, slotWords}
-use Rattle.rules.specs.Refusals.{judged, sound, splice, slotRows, editSlot, callRows, called, edit, readNumber}
-use Rattle.rules.specs.Refusals.{readStart, readLength, readWords, badSlot, freshSlots, setUpAnswer, setUp}
+use Rattle.rules.specs.Refusals.{judged, sound, splice, slotRows, editSlot, callRows, called, onSlot, edit}
+use Rattle.rules.specs.Refusals.{readRows, readNumber, readStart, readLength, readWords}
+use Rattle.rules.specs.Refusals.{badSlot, freshSlots, setUpRows, setUpAnswer, setUp}
 
 unfoldable pub computed : Unit {0}
 unfolding joined cut zeros codeOk classes classOk rowOf sizeOk advanceKind advanceOk groupOk recOk badRecord
@@ -23,5 +22,6 @@ unfolding joined cut zeros codeOk classes classOk rowOf sizeOk advanceKind advan
     offsets baseOffsets rubyOffset rubyPlace ruleOf measured spaceBy spaceOf forbidden flexibility gapBy weight
     gapOf smallest runs wideRun noBreaking filled breaking totals unitAdvances amounts amountsOf placed ending
     kindOf lineOf linesOf compose placesOf placeWords lineWords slotWords judged sound splice slotRows editSlot
-    callRows called edit readNumber readStart readLength readWords badSlot freshSlots setUpAnswer setUp
+    callRows called onSlot edit readRows readNumber readStart readLength readWords badSlot freshSlots setUpRows
+    setUpAnswer setUp
 computed = tt

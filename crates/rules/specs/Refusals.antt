@@ -2,10 +2,11 @@
 -- has a row for each number that it gives, in that order; the first row that applies is the answer.
 --
 --   answer       a number and a place; success is 0 and the line count (set-up: 0 and P)
---   outcome      an answer, and the words afterwards; "Every refusal leaves the whole sheet unchanged."
+--   outcome      what a call answers, and the words afterwards; "Every refusal leaves the whole sheet unchanged."
 --   judged       answers 8, 9 and 10 of records in a measure
 --   sound        a slot to which answer 4 does not apply
 --   splice       the named stretch of records replaced
+--   on slot      a call on one slot of a sheet, by what it does to the slot's words
 --
 -- Assumes nothing.
 use Prim.Native.Nat.{ℕ, zero, suc, _+_, _*_, _-_, _/_, _%_}
@@ -19,8 +20,9 @@ use Rattle.rules.specs.Records.{Rec, records, badRecord}
 use Rattle.rules.specs.Groups.{groupFault, units}
 use Rattle.rules.specs.Breaks.{noBreaking}
 use Rattle.rules.specs.Adjustment.{compose}
-use Rattle.rules.specs.Sheet.{slotWords, fresh, clinicOf, measureOf, indentOf, countOf, lineCountOf, recordsOf}
-use Rattle.rules.specs.Sheet.{limitsOk, slotLimitsOk, slotCount, lengthOk, slotAt, withSlot}
+use Rattle.rules.specs.Sheet.{Setting, setting, slotWords, fresh, clinicOf, measureOf, indentOf, settingOf}
+use Rattle.rules.specs.Sheet.{countOf, lineCountOf, recordsOf, limitsOk, slotLimitsOk}
+use Rattle.rules.specs.Sheet.{slotCount, lengthOk, slotAt, withSlot}
 
 pub record Answer : Type 0 where
   pub number : ℕ
@@ -29,8 +31,20 @@ pub record Answer : Type 0 where
 abbrev pub says : ℕ → ℕ → Answer
 says n p = record { number = n; place = p }
 
-abbrev pub Outcome : Type 0
-Outcome = Answer × List ℕ
+-- An edit's answer is a type of its own, apart from set-up's, so that it can tell more than the tables do
+pub record EditAnswer : Type 0 where
+  pub number : ℕ
+  pub place : ℕ
+
+abbrev pub editSays : ℕ → ℕ → EditAnswer
+editSays n p = record { number = n; place = p }
+
+-- an answer of the tables, as an edit gives it
+abbrev pub asEdit : Answer → EditAnswer
+asEdit a = editSays (a .number) (a .place)
+
+abbrev pub Outcome : Type 0 → Type 0
+Outcome A = A × List ℕ
 
 -- 8, 9, 10 and 11 name a place where they apply
 abbrev pub orElse : ℕ → Option ℕ → Answer → Answer
@@ -71,13 +85,11 @@ slotRows s place deleted inserted =
 
 -- an edit of slot s by its own clinic: the answer, and the slot's words. "An accepted edit keeps clinic, measure and
 -- indent and writes every other word of its slot"
-unfoldable pub editSlot : List ℕ → ℕ → ℕ → List ℕ → Outcome
+unfoldable pub editSlot : List ℕ → ℕ → ℕ → List ℕ → Outcome EditAnswer
 editSlot s place deleted inserted =
-    let m = measureOf s in
-    let x = indentOf s in
     let rs = edited s place deleted inserted in
-    let a = firstOf (slotRows s place deleted inserted) (judged m x rs) in
-    (a, cond (eqb (a .number) 0) (slotWords (clinicOf s) m x rs) s)
+    let a = firstOf (slotRows s place deleted inserted) (judged (measureOf s) (indentOf s) rs) in
+    (asEdit a, cond (eqb (a .number) 0) (slotWords (settingOf s) rs) s)
 
 -- the rows 1 to 3, with which each call on a slot begins; 3 looks at no word of the slot but its clinic
 unfoldable pub callRows : List ℕ → ℕ → ℕ → List (Bool × Answer)
@@ -91,18 +103,26 @@ callRows ws caller k =
 unfoldable pub called : List ℕ → ℕ → ℕ → Answer
 called ws caller k = firstOf (callRows ws caller k) (says 0 0)
 
--- edit of slot k by a caller
-unfoldable pub edit : List ℕ → ℕ → ℕ → ℕ → ℕ → List ℕ → Outcome
-edit ws caller k place deleted inserted =
+-- a call on slot k: f gives its answer and the slot's words afterwards, where none of the rows 1 to 3 applies; where
+-- one does, `refused` gives the answer, and the sheet stays as it is. "It works on the part of the sheet that is the
+-- named slot."
+unfoldable pub onSlot : {A : Type 0} → (Answer → A) → List ℕ → ℕ → ℕ → (List ℕ → Outcome A) → Outcome A
+onSlot refused ws caller k f =
     let a = called ws caller k in
-    let o = editSlot (slotAt ws k) place deleted inserted in
-    cond (eqb (a .number) 0) (o .0, withSlot ws k (o .1)) (a, ws)
+    let o = f (slotAt ws k) in
+    cond (eqb (a .number) 0) (o .0, withSlot ws k (o .1)) (refused a, ws)
+
+-- edit of slot k by a caller
+unfoldable pub edit : List ℕ → ℕ → ℕ → ℕ → ℕ → List ℕ → Outcome EditAnswer
+edit ws caller k place deleted inserted = onSlot asEdit ws caller k (λ s. editSlot s place deleted inserted)
+
+-- the row 4 of a read of slot s
+unfoldable pub readRows : List ℕ → List (Bool × Answer)
+readRows s = (ltb 256 (lineCountOf s), says 4 0) ∷ []
 
 -- read: "0, or 1, 2, 3, then 4 if the stored line count exceeds 256"
 unfoldable pub readNumber : List ℕ → ℕ → ℕ → ℕ
-readNumber ws caller k =
-    let a = called ws caller k in
-    cond (eqb (a .number) 0) (cond (ltb 256 (lineCountOf (slotAt ws k))) 4 0) (a .number)
+readNumber ws caller k = firstOf (callRows ws caller k ++ readRows (slotAt ws k)) (says 0 0) .number
 
 -- where in the sheet the words that a read hands back start, and how many they are: "A refused read hands back an
 -- empty part."
@@ -119,11 +139,15 @@ readPart ws caller k = (readStart ws caller k, readStart ws caller k + readLengt
 unfoldable pub readWords : List ℕ → ℕ → ℕ → List ℕ
 readWords ws caller k = take (readLength ws caller k) (drop (readStart ws caller k) ws)
 
+-- slot k's setting by the three lists of a set-up
+abbrev pub settingAt : List ℕ → List ℕ → List ℕ → ℕ → Setting
+settingAt clinics measures indents k = setting (getD clinics k 0) (getD measures k 0) (getD indents k 0)
+
 -- 11: "a clinic, measure or indent out of limits", "first such slot", counted from k
 unfoldable pub badSlot : ℕ → List ℕ → List ℕ → List ℕ → ℕ → Option ℕ
 badSlot k clinics measures indents zero = none
 badSlot k clinics measures indents (suc n) =
-    elim (slotLimitsOk (getD clinics k 0) (getD measures k 0) (getD indents k 0)) [
+    elim (slotLimitsOk (settingAt clinics measures indents k)) [
       | true ↦ badSlot (suc k) clinics measures indents n
       | false ↦ some k
     ]
@@ -132,19 +156,22 @@ badSlot k clinics measures indents (suc n) =
 unfoldable pub freshSlots : ℕ → List ℕ → List ℕ → List ℕ → ℕ → List ℕ
 freshSlots k clinics measures indents zero = []
 freshSlots k clinics measures indents (suc n) =
-    fresh (getD clinics k 0) (getD measures k 0) (getD indents k 0) ++ freshSlots (suc k) clinics measures indents n
+    fresh (settingAt clinics measures indents k) ++ freshSlots (suc k) clinics measures indents n
+
+-- the row 1 of a set-up of a sheet of n words
+unfoldable pub setUpRows : ℕ → List ℕ → List ℕ → List ℕ → List (Bool × Answer)
+setUpRows n clinics measures indents =
+    let p = n / 2824 in
+    let another : List ℕ → Bool = λ l. not (eqb (length l) p) in
+    (not (lengthOk n) || another clinics || another measures || another indents, says 1 0) ∷ []
 
 -- set-up: "gives 1 and 11 only"
 unfoldable pub setUpAnswer : ℕ → List ℕ → List ℕ → List ℕ → Answer
 setUpAnswer n clinics measures indents =
     let p = n / 2824 in
-    cond
-    (not (lengthOk n) || not (eqb (length clinics) p) || not (eqb (length measures) p)
-    || not (eqb (length indents) p))
-    (says 1 0)
-    (orElse 11 (badSlot 0 clinics measures indents p) (says 0 p))
+    firstOf (setUpRows n clinics measures indents) (orElse 11 (badSlot 0 clinics measures indents p) (says 0 p))
 
-unfoldable pub setUp : List ℕ → List ℕ → List ℕ → List ℕ → Outcome
+unfoldable pub setUp : List ℕ → List ℕ → List ℕ → List ℕ → Outcome Answer
 setUp ws clinics measures indents =
     let a = setUpAnswer (length ws) clinics measures indents in
     (a, cond (eqb (a .number) 0) (freshSlots 0 clinics measures indents (slotCount ws)) ws)

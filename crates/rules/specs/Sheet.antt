@@ -3,6 +3,7 @@
 --   sheet        P slots of 2,824 words each, P from 1 to 64
 --   slot         head, 256 records, 256 places, 256 lines: 8 + 1,536 + 512 + 768 words
 --   head         clinic, measure, indent, record count, line count, three zeros
+--   setting      of a slot: clinic, measure and indent
 --   place        of a record: x, line number
 --   line         first record, end x, kind
 --   fresh        as set-up leaves a slot: clinic, measure, indent, all else 0
@@ -33,23 +34,32 @@ unfoldable pub lineWords : ℕ → List Line → List ℕ
 lineWords f [] = []
 lineWords f (l ∷ ls) = f ∷ l .end ∷ l .kind ∷ lineWords (f + l .count) ls
 
-abbrev pub head : ℕ → ℕ → ℕ → ℕ → ℕ → List ℕ
-head clinic m x n lines = clinic ∷ m ∷ x ∷ n ∷ lines ∷ 0 ∷ 0 ∷ 0 ∷ []
+-- what set-up gives a slot and an edit keeps
+pub record Setting : Type 0 where
+  pub clinic : ℕ
+  pub measure : ℕ
+  pub indent : ℕ
+
+abbrev pub setting : ℕ → ℕ → ℕ → Setting
+setting clinic m x = record { clinic = clinic; measure = m; indent = x }
+
+abbrev pub head : Setting → ℕ → ℕ → List ℕ
+head t n lines = t .clinic ∷ t .measure ∷ t .indent ∷ n ∷ lines ∷ 0 ∷ 0 ∷ 0 ∷ []
 
 -- the words of a slot of these records and lines: "Words past the counts are zero."
-abbrev pub slotOf : ℕ → ℕ → ℕ → List Rec → List Line → List ℕ
-slotOf clinic m x rs ls =
-    head clinic m x (length rs) (length ls) ++ padded 1536 (recordWords rs) ++ padded 512 (placeWords 0 ls)
+abbrev pub slotOf : Setting → List Rec → List Line → List ℕ
+slotOf t rs ls =
+    head t (length rs) (length ls) ++ padded 1536 (recordWords rs) ++ padded 512 (placeWords 0 ls)
     ++ padded 768 (lineWords 0 ls)
 
--- the 2,824 words of a slot, from its clinic, measure, indent and records
-unfoldable pub slotWords : ℕ → ℕ → ℕ → List Rec → List ℕ
-slotWords clinic m x rs = slotOf clinic m x rs (compose m x (units rs))
+-- the 2,824 words of a slot, from its setting and its records
+unfoldable pub slotWords : Setting → List Rec → List ℕ
+slotWords t rs = slotOf t rs (compose (t .measure) (t .indent) (units rs))
 
-abbrev pub fresh : ℕ → ℕ → ℕ → List ℕ
-fresh clinic m x = clinic ∷ m ∷ x ∷ zeros 2821
+abbrev pub fresh : Setting → List ℕ
+fresh t = t .clinic ∷ t .measure ∷ t .indent ∷ zeros 2821
 
--- the head's words, and the records, of a slot s
+-- the head's words, the setting, and the records, of a slot s
 abbrev pub clinicOf : List ℕ → ℕ
 clinicOf s = getD s 0 0
 
@@ -58,6 +68,9 @@ measureOf s = getD s 1 0
 
 abbrev pub indentOf : List ℕ → ℕ
 indentOf s = getD s 2 0
+
+abbrev pub settingOf : List ℕ → Setting
+settingOf s = setting (clinicOf s) (measureOf s) (indentOf s)
 
 abbrev pub countOf : List ℕ → ℕ
 countOf s = getD s 3 0
@@ -72,8 +85,8 @@ recordsOf s = records (drop 8 s) 0 (countOf s)
 abbrev pub limitsOk : ℕ → ℕ → Bool
 limitsOk m x = within 8 1000000 m && ltb x m
 
-abbrev pub slotLimitsOk : ℕ → ℕ → ℕ → Bool
-slotLimitsOk clinic m x = leb clinic 65535 && limitsOk m x
+abbrev pub slotLimitsOk : Setting → Bool
+slotLimitsOk t = leb (t .clinic) 65535 && limitsOk (t .measure) (t .indent)
 
 -- P, and "2,824 P for a P from 1 to 64"
 abbrev pub slotCount : List ℕ → ℕ

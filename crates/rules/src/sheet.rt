@@ -1,6 +1,6 @@
 // "The sheet": the limits of a slot's numbers.
 ghost use mathlib.Core.Path.{_≡_};
-ghost use Rattle.rules.specs.Sheet.{limitsOk, slotLimitsOk};
+ghost use Rattle.rules.specs.Sheet.{setting, limitsOk, slotLimitsOk};
 use crate::basics::between;
 
 // A measure from 8 to 1,000,000, and an indent below it.
@@ -12,7 +12,7 @@ pub fn limits_ok(measure: u32, indent: u32) -> bool
 
 // The same, and a clinic of at most 65,535.
 pub fn slot_limits_ok(clinic: u32, measure: u32, indent: u32) -> bool
-    ensures { λ b. ⌜ b ≡ slotLimitsOk clinic measure indent ⌝ }
+    ensures { λ b. ⌜ b ≡ slotLimitsOk (setting clinic measure indent) ⌝ }
 {
     (clinic <= 65535) & limits_ok(measure, indent)
 }

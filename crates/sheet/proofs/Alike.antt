@@ -1,22 +1,21 @@
--- Two sheets: what a call answers depends on the sheet's length, the named slot's clinic and, where that is the
--- caller, the slot's words. Assumes nothing.
+-- Two sheets: what a call on a slot answers, and leaves of the slot, depends on the sheet's length, the slot's clinic
+-- and, where that is the caller, the slot's words; whatever the call does there. Assumes nothing.
 use mathlib.Core.Path.{_≡_, refl, sym, ap, _∙_}
-use Prim.Native.Nat.{ℕ, _*_, _/_}
+use Prim.Native.Nat.{ℕ, _/_}
 use mathlib.Core.Bool.{Bool, true, false, not, _||_}
 use mathlib.Core.List.{List, [], _∷_}
 use mathlib.Core.Logic.{inl, inr}
 use lib.Dec.{leb, eqb}
-use lib.ListN.{length, take, drop}
+use lib.ListN.{length}
 use borrow.Author.Tests.{eqb-true, eqb-false}
 use Rattle.rules.specs.Basics.{firstOf}
-use Rattle.rules.specs.Sheet.{clinicOf, lineCountOf, slotCount, lengthOk, slotAt}
-use Rattle.rules.specs.Refusals.{Answer, says, callRows, called, edit, readNumber, readWords, setUpAnswer, setUp}
+use Rattle.rules.specs.Sheet.{clinicOf, slotCount, lengthOk, slotAt}
+use Rattle.rules.specs.Refusals.{Answer, says, Outcome, callRows, called, onSlot}
 use Rattle.rules.proofs.Facts.{tested}
-use Rattle.sheet.specs.Book.{Call, call-set-up, call-edit, call-read, answered, handed, step}
-use Rattle.sheet.specs.Meanings.{beyond, Alike, AlikeFor}
-use Rattle.sheet.proofs.Tables.{passed}
+use Rattle.sheet.specs.Meanings.{beyond, Alike}
+use Rattle.sheet.proofs.Tables.{same-number, passed}
 use Rattle.sheet.proofs.Entry.{entered}
-use Rattle.sheet.proofs.Reading.{number-called, read-slot, read-none}
+use Rattle.sheet.proofs.OnSlot.{KeepsLength, on-slot, on-refusing}
 
 -- the rows 1 to 3
 abbrev three : Bool → Bool → Bool → Answer
@@ -51,43 +50,35 @@ module _ (ws vs : List ℕ) (caller k : ℕ) (a : Alike caller k ws vs) where
       let e = entered ws caller k z in
       a .same-words (entered-within ws caller k z) (e .known) (e .own)
 
-  edit-alike : (place deleted : ℕ) (inserted : List ℕ) →
-      edit ws caller k place deleted inserted .0 ≡ edit vs caller k place deleted inserted .0
-  unfolding edit
-  edit-alike place deleted inserted =
-      elim (tested (eqb (called ws caller k .number) 0)) [
-        | inl e ↦ rw (← same-called, e, same-slot (eqb-true _ _ e))
-        | inr e ↦ rw (← same-called, e)
-      ]
+  module _ {A : Type 0} (refused : Answer → A) (f : List ℕ → Outcome A) where
+    abbrev on : List ℕ → Outcome A
+    on us = onSlot refused us caller k f
 
-  number-alike : readNumber ws caller k ≡ readNumber vs caller k
-  unfolding readNumber
-  number-alike =
-      elim (tested (eqb (called ws caller k .number) 0)) [
-        | inl e ↦ rw (← same-called, e, same-slot (eqb-true _ _ e))
-        | inr e ↦ rw (← same-called, e)
-      ]
+    -- what is answered is the same on both
+    pub on-alike : on ws .0 ≡ on vs .0
+    unfolding onSlot
+    on-alike =
+        elim (tested (eqb (called ws caller k .number) 0)) [
+          | inl e ↦ rw (← same-called, e, same-slot (eqb-true _ _ e))
+          | inr e ↦ rw (← same-called, e)
+        ]
 
-  words-alike : readWords ws caller k ≡ readWords vs caller k
-  words-alike =
-      elim (tested (eqb (readNumber ws caller k) 0)) [
-        | inl e ↦
-            let z = eqb-true _ _ e in
-            let s = same-slot (number-called ws caller k z) in
-            read-slot ws caller k z
-            ∙ ap (λ w. take (3 * lineCountOf w) (drop 2056 w)) s
-            ∙ sym (read-slot vs caller k (sym number-alike ∙ z))
-        | inr e ↦
-            let z = eqb-false _ _ e in
-            read-none ws caller k z ∙ sym (read-none vs caller k (λ f. z (number-alike ∙ f)))
-      ]
-
--- what a call answers is the same on sheets that are alike for it
-pub same-reply : (c : Call) (ws vs : List ℕ) → AlikeFor c ws vs → step c ws .0 ≡ step c vs .0
-unfolding setUp
-same-reply (call-set-up cs ms xs) ws vs a = ap (λ n. answered (setUpAnswer n cs ms xs)) a
-same-reply (call-edit c k place deleted inserted) ws vs a =
-    ap answered (edit-alike ws vs (c .0) (k .0) a place deleted inserted)
-same-reply (call-read c k) ws vs a =
-    ap (λ n. handed n (readWords ws (c .0) (k .0))) (number-alike ws vs (c .0) (k .0) a)
-    ∙ ap (handed (readNumber vs (c .0) (k .0))) (words-alike ws vs (c .0) (k .0) a)
+    -- and so is what is left of the slot, where the caller is its clinic
+    pub on-left-alike : KeepsLength f → beyond (length ws) k ≡ false → (caller ≡ 0 → ⊥) →
+        caller ≡ clinicOf (slotAt ws k) → slotAt (on ws .1) k ≡ slotAt (on vs .1) k
+    on-left-alike keeps b known own =
+        let same = a .same-words b known own in
+        elim (tested (eqb (called ws caller k .number) 0)) [
+          | inl e ↦
+              let z = eqb-true _ _ e in
+              on-slot refused ws caller k f keeps z
+              ∙ ap (λ s. f s .1) same
+              ∙ sym (on-slot refused vs caller k f keeps (same-number (sym same-called) ∙ z))
+          | inr e ↦
+              let z = eqb-false _ _ e in
+              ap (λ (o : Outcome A). slotAt (o .1) k) (on-refusing refused ws caller k f z)
+              ∙ same
+              ∙ sym
+              (ap (λ (o : Outcome A). slotAt (o .1) k)
+              (on-refusing refused vs caller k f (λ y. z (same-number same-called ∙ y))))
+        ]

@@ -6,27 +6,26 @@ use mathlib.Core.List.{List, [], _∷_, _++_, map}
 use lib.ListN.{length}
 use Rattle.rules.specs.Records.{recordWords}
 use Rattle.rules.specs.Sheet.{lengthOk, slotCount, slotAt}
-use Rattle.rules.specs.Refusals.{edit}
 use Rattle.rules.specs.Meanings.{All}
-use Rattle.sheet.specs.Book.{BookSlot, bookAt, Reply, numberOf, freshSlot, single}
-use Rattle.sheet.specs.Book.{runBook}
-use Rattle.sheet.proofs.Runs.{SetUpRun, Run, set-up-run, call, reply}
-use Rattle.sheet.proofs.Runs.{final}
+use Rattle.sheet.specs.Book.{call-on, edits, Reply, numberOf, BookSlot, bookAt, freshSlot, single, runBook}
+use Rattle.sheet.specs.declared.Clinic.{Clinic}
+use Rattle.sheet.specs.declared.SlotNumber.{SlotNumber}
+use Rattle.sheet.proofs.Runs.{SetUpRun, Run, set-up-run, call, before, after, reply, final}
 
 -- the book's replies and its slots after some runs on a sheet of n words
 abbrev pub booked : ℕ → List Run → List Reply × List BookSlot
 booked n rs = runBook n (map call rs) []
 
--- the words w of a slot s are those of the single edit; and on any sheet vs with such a fresh slot j, the edit call by
--- the slot's clinic, at place 0, that deletes nothing and inserts the words of all records, is accepted and leaves w.
+-- the words w of a slot s are those of the single edit; and on any sheet with such a fresh slot j, every run of the edit
+-- by the slot's clinic, at place 0, that deletes nothing and inserts the words of all records, is accepted and leaves w.
 -- An unassigned slot has no clinic to call, and no records
 pub record BySingleEdit (s : BookSlot) (w : List ℕ) : Type 0 where
   pub slot : single s ≡ w
-  pub unassigned : s .clinic ≡ 0 → s .records ≡ []
-  pub call : (vs : List ℕ) (j : ℕ) → lengthOk (length vs) ≡ true → j < slotCount vs → slotAt vs j ≡ freshSlot s →
-      (s .clinic ≡ 0 → ⊥) →
-      let o = edit vs (s .clinic) j 0 0 (recordWords (s .records)) in
-      (o .0 .number ≡ 0) × (slotAt (o .1) j ≡ w)
+  pub unassigned : s .setting .clinic ≡ 0 → s .records ≡ []
+  pub by-run : (r : Run) (c : Clinic) (j : SlotNumber) →
+      call r ≡ call-on c j (edits 0 0 (recordWords (s .records))) → c .0 ≡ s .setting .clinic → (c .0 ≡ 0 → ⊥) →
+      lengthOk (length (before r)) ≡ true → j .0 < slotCount (before r) → slotAt (before r) (j .0) ≡ freshSlot s →
+      (numberOf (reply r) ≡ 0) × (slotAt (after r) (j .0) ≡ w)
 
 -- sequences that begin with an accepted set-up, after refused ones or none
 pub data Begun : List Run → Type 0 where

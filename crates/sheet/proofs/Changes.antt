@@ -1,33 +1,34 @@
--- What an accepted edit does on a sheet of any words, and when answer 10 is given. Assumes nothing.
+-- What an accepted edit does on a sheet of any words, and when answers 0 and 10 are given. Assumes nothing.
 use mathlib.Core.Path.{_≡_, refl, sym, ap, _∙_}
 use Prim.Native.Nat.{ℕ, _-_, _≤_}
 use native.Mathlib.Omega.{arith}
 use mathlib.Core.Bool.{true}
 use mathlib.Core.List.{List}
-use mathlib.Core.Logic.{_↔_}
+use mathlib.Core.Logic.{_↔_, inl, inr}
 use mathlib.Core.Option.{Option, none, some}
+use lib.Dec.{eqb}
 use lib.ListN.{length}
+use borrow.Author.Tests.{eqb-true, eqb-false}
 use Rattle.rules.specs.Basics.{Run}
 use Rattle.rules.specs.Groups.{TextUnit, units}
 use Rattle.rules.specs.Breaks.{runs, noBreaking}
 use Rattle.rules.specs.Adjustment.{compose}
-use Rattle.rules.specs.Sheet.{lineWords, slotWords, clinicOf, measureOf, indentOf, lineCountOf}
+use Rattle.rules.specs.Sheet.{Setting, lineWords, slotWords, clinicOf, measureOf, indentOf, settingOf, lineCountOf}
 use Rattle.rules.specs.Sheet.{slotAt}
-use Rattle.rules.specs.Refusals.{Answer, says, Outcome, orElse, judged, edited, slotRows, editSlot}
-use Rattle.rules.specs.Refusals.{callRows, called, edit, readNumber, readWords}
+use Rattle.rules.specs.Refusals.{Answer, says, EditAnswer, asEdit, Outcome, orElse, judged, edited, slotRows}
+use Rattle.rules.specs.Refusals.{editSlot, callRows, called, onSlot, edit, readNumber, readWords}
 use Rattle.rules.specs.Meanings.{Choice, Fits, FirstWide}
+use Rattle.rules.proofs.Facts.{tested}
 use Rattle.rules.proofs.Claims.{no-10-exactly, answer-10}
-use Rattle.rules.proofs.Judged.{judged-0, judged-10}
+use Rattle.rules.proofs.Judged.{judged-passes, judged-0, judged-10}
+use Rattle.rules.proofs.Lengths.{composed-few}
 use Rattle.sheet.specs.Meanings.{NoEarlier, Spliced}
 use Rattle.sheet.proofs.Tables.{same-number, lacking, passed, under-table}
 use Rattle.sheet.proofs.Reading.{number-0, read-slot}
-use Rattle.rules.proofs.Lengths.{composed-few}
-use Rattle.sheet.proofs.Words.{slot-clinic, slot-line-count, slot-lines}
+use Rattle.sheet.proofs.Words.{slot-setting, slot-line-count, slot-lines}
+use Rattle.sheet.proofs.OnSlot.{on-entering, on-refusing, on-length, on-slot}
 use Rattle.sheet.proofs.Alike.{called-alike}
-use Rattle.sheet.proofs.Frame.{Edited, entering, refusing, edit-cases, edit-entering, edit-length}
-use Rattle.sheet.proofs.Frame.{room, length-outcome, slot-with}
-use Rattle.sheet.proofs.SlotChanges.{slot-judged, accepted-few}
-use Rattle.sheet.proofs.SlotChanges.{slot-accepted, slot-spliced}
+use Rattle.sheet.proofs.SlotChanges.{slot-judged, length-edit-slot, slot-accepted, slot-spliced}
 
 module _ (ws : List ℕ) (caller k place deleted : ℕ) (inserted : List ℕ) where
   abbrev before : List ℕ
@@ -42,108 +43,152 @@ module _ (ws : List ℕ) (caller k place deleted : ℕ) (inserted : List ℕ) wh
   abbrev us : List TextUnit
   us = units (edited before place deleted inserted)
 
-  abbrev inSlot : Outcome
-  inSlot = editSlot before place deleted inserted
+  abbrev here : List ℕ → Outcome EditAnswer
+  here s = editSlot s place deleted inserted
 
-  abbrev out : Outcome
-  out = edit ws caller k place deleted inserted
+  abbrev out : Outcome EditAnswer
+  out = onSlot asEdit ws caller k here
+
+  whole : (s : List ℕ) → length s ≡ 2824 → length (here s .1) ≡ 2824
+  whole s h = length-edit-slot s place deleted inserted h
 
   -- an answer that the rows 1 to 3 do not give is the slot's
-  pub record FromSlot (n : ℕ) (o : Outcome) : Type 0 where
+  pub record FromSlot (n : ℕ) : Type 0 where
     pub entry : called ws caller k .number ≡ 0
-    pub number : inSlot .0 .number ≡ n
-    pub answer : o .0 ≡ inSlot .0
-    pub slot : slotAt (o .1) k ≡ inSlot .1
+    pub number : here before .0 .number ≡ n
+    pub answer : out .0 ≡ here before .0
+    pub slot : slotAt (out .1) k ≡ here before .1
 
-  from-slot : (n : ℕ) → lacking n (callRows ws caller k) ≡ true → out .0 .number ≡ n → FromSlot n out
+  from-slot : (n : ℕ) → lacking n (callRows ws caller k) ≡ true → out .0 .number ≡ n → FromSlot n
   unfolding called
-  from-slot n l z = from (edit-cases ws caller k place deleted inserted) z
-    where
-      from : {o : Outcome} → Edited ws caller k place deleted inserted o → o .0 .number ≡ n → FromSlot n o
-      from (entering e) z =
-          let r = room ws caller k place deleted inserted e in
-          let w = length-outcome ws caller k place deleted inserted e in
-          record { entry = e; number = z; answer = refl; slot = slot-with ws k (inSlot .1) r w }
-      from (refusing e) z = absurd (e (z ∙ sym (passed n (callRows ws caller k) (says 0 0) l z .1)))
+  from-slot n l z =
+      elim (tested (eqb (called ws caller k .number) 0)) [
+        | inl t ↦
+            let e = eqb-true _ _ t in
+            let a : out .0 ≡ here before .0
+            = ap (λ (o : Outcome EditAnswer). o .0) (on-entering asEdit ws caller k here e) in
+            record {
+              entry = e;
+              number = ap (λ (b : EditAnswer). b .number) (sym a) ∙ z;
+              answer = a;
+              slot = on-slot asEdit ws caller k here whole e;
+            }
+        | inr t ↦
+            let e = eqb-false _ _ t in
+            let y : called ws caller k .number ≡ n
+            = ap (λ (o : Outcome EditAnswer). o .0 .number) (sym (on-refusing asEdit ws caller k here e)) ∙ z in
+            absurd (e (y ∙ sym (passed n (callRows ws caller k) (says 0 0) l y .1)))
+      ]
 
   -- an accepted edit
   pub accepted-edit : out .0 .number ≡ 0 → Spliced before (slotAt (out .1) k) (out .0) place deleted inserted
   unfolding callRows slotRows
   accepted-edit z =
       let f = from-slot 0 refl z in
-      let h = slot-judged before place deleted inserted 0 refl (f .number) .fits in
+      let j = slot-judged before place deleted inserted 0 refl (f .number) in
       let a = slot-accepted before place deleted inserted (f .number) in
-      rw (f .answer, f .slot) (slot-spliced before place deleted inserted h a)
+      rw (f .answer, f .slot) (slot-spliced before place deleted inserted j a)
 
   -- a read after it, by the same caller, hands back the line words of the composed records
   pub read-after : out .0 .number ≡ 0 →
       (readNumber (out .1) caller k ≡ 0) × (readWords (out .1) caller k ≡ lineWords 0 (compose m x us))
-  unfolding callRows
+  unfolding callRows slotRows
   read-after z =
       let f = from-slot 0 refl z in
       let rs = edited before place deleted inserted in
-      let few = accepted-few before place deleted inserted (f .number) in
-      let s : slotAt (out .1) k ≡ slotWords (clinicOf before) m x rs
-      = f .slot ∙ ap (λ (o : Outcome). o .1) (slot-accepted before place deleted inserted (f .number)) in
+      let few = slot-judged before place deleted inserted 0 refl (f .number) .few in
+      let s : slotAt (out .1) k ≡ slotWords (settingOf before) rs
+      = f .slot
+      ∙ ap (λ (o : Outcome EditAnswer). o .1) (slot-accepted before place deleted inserted (f .number)) in
       let clinic : clinicOf (slotAt (out .1) k) ≡ clinicOf before
-      = ap clinicOf s ∙ slot-clinic (clinicOf before) m x rs in
+      = ap clinicOf s ∙ ap (λ (t : Setting). t .clinic) (slot-setting (settingOf before) rs) in
       let called-again : called (out .1) caller k ≡ called ws caller k
-      = called-alike (out .1) ws caller k (edit-length ws caller k place deleted inserted) (λ h. clinic) in
+      = called-alike (out .1) ws caller k (on-length asEdit ws caller k here whole) (λ h. clinic) in
       let lines : lineCountOf (slotAt (out .1) k) ≤ 256
       = rw (s, slot-line-count) (omega (arith, composed-few m x rs)) in
       let n = number-0 (out .1) caller k (same-number called-again ∙ f .entry) lines in
-      (n, read-slot (out .1) caller k n ∙ rw (s, slot-line-count) (slot-lines (clinicOf before) m x rs few))
+      (n, read-slot (out .1) caller k n ∙ rw (s, slot-line-count) (slot-lines (settingOf before) rs few))
 
-  -- Answer 10
+  -- Answers 0 and 10
 
   pub found-0 : out .0 .number ≡ 0 → noBreaking m x us ≡ none
-  unfolding callRows slotRows
+  unfolding callRows slotRows editSlot
   found-0 z =
       let f = from-slot 0 refl z in
       let j = slot-judged before place deleted inserted 0 refl (f .number) .answer in
       judged-0 m x _ (same-number (sym j) ∙ f .number) .0
 
-  pub found-10 : out .0 .number ≡ 10 → noBreaking m x us ≡ some (out .0 .place)
-  unfolding callRows slotRows
-  found-10 z =
+  -- the place of 10 is the first record of the first run that is too wide
+  pub place-10 : out .0 .number ≡ 10 → FirstWide m x (runs us) (out .0 .place)
+  unfolding callRows slotRows editSlot
+  place-10 z =
       let f = from-slot 10 refl z in
       let j = slot-judged before place deleted inserted 10 refl (f .number) .answer in
-      judged-10 m x _ (same-number (sym j) ∙ f .number) ∙ ap (λ (a : Answer). some (a .place)) (sym (f .answer ∙ j))
+      let a : out .0 ≡ asEdit (judged m x (edited before place deleted inserted)) = f .answer ∙ ap asEdit j in
+      let e = judged-10 m x _ (same-number (sym j) ∙ f .number) in
+      answer-10 m x us (out .0 .place) (e ∙ ap (λ (b : EditAnswer). some (b .place)) (sym a)) .1
 
-  -- where no earlier answer is due, 10 is given exactly where no choice of permitted breaks fits the measure, and 0
-  -- exactly where one does
   abbrev pub Breakable : Type 0
   Breakable = (ls : List (Run TextUnit)) × Choice us ls × Fits m x ls
 
-  due-10 : NoEarlier ws caller k place deleted inserted →
-      out .0 ≡ orElse 10 (noBreaking m x us) (says 0 (length (compose m x us)))
+  abbrev NoneDue : Type 0
+  NoneDue = NoEarlier ws caller k place deleted inserted
+
+  -- a number that no earlier row gives is given only where none of them is due
+  none-due : (n : ℕ) → lacking n (callRows ws caller k) ≡ true →
+      lacking n (slotRows before place deleted inserted) ≡ true → (n ≡ 8 → ⊥) → (n ≡ 9 → ⊥) → out .0 .number ≡ n → NoneDue
+  unfolding editSlot
+  none-due n l r h i z =
+      let rows = slotRows before place deleted inserted in
+      let f = from-slot n l z in
+      let p = passed n rows (judged m x (edited before place deleted inserted)) r (f .number) in
+      let j = judged-passes m x (edited before place deleted inserted) n h i (p .1) in
+      record {
+        call = f .entry;
+        slot = same-number (under-table rows (says 0 0) (p .0));
+        records = j .0;
+        groups = j .1;
+      }
+
+  -- and where none of them is due, the answer is that of the breaking
+  due-10 : NoneDue → out .0 ≡ asEdit (orElse 10 (noBreaking m x us) (says 0 (length (compose m x us))))
   unfolding slotRows editSlot judged
   due-10 h =
       let rows = slotRows before place deleted inserted in
-      ap (λ (o : Outcome). o .0) (edit-entering ws caller k place deleted inserted (h .call))
-      ∙ under-table rows _ (passed 0 rows (says 0 0) refl (h .slot) .0)
-      ∙ rw (h .records, h .groups)
+      ap (λ (o : Outcome EditAnswer). o .0) (on-entering asEdit ws caller k here (h .call))
+      ∙ ap asEdit (under-table rows _ (passed 0 rows (says 0 0) refl (h .slot) .0) ∙ rw (h .records, h .groups))
 
-  pub exactly-10 : NoEarlier ws caller k place deleted inserted →
+  by-breaking : (o : Option ℕ) → noBreaking m x us ≡ o →
+      out .0 ≡ asEdit (orElse 10 o (says 0 (length (compose m x us)))) →
       ((out .0 .number ≡ 10) ↔ (Breakable → ⊥)) × ((out .0 .number ≡ 0) ↔ Breakable)
-  exactly-10 h = from (noBreaking m x us) refl (due-10 h)
-    where
-      from : (o : Option ℕ) → noBreaking m x us ≡ o →
-          out .0 ≡ orElse 10 o (says 0 (length (compose m x us))) →
-          ((out .0 .number ≡ 10) ↔ (Breakable → ⊥)) × ((out .0 .number ≡ 0) ↔ Breakable)
-      from none e a =
-          let b : Breakable = no-10-exactly m x us .0 e in
-          let z = same-number a in (
-            (λ t. absurd (omega (arith, t, z)), λ f. absurd (f b)),
-            (λ t. b, λ b. z),
-          )
-      from (some i) e a =
-          let f : Breakable → ⊥ = answer-10 m x us i e .0 in
-          let z = same-number a in (
-            (λ t. f, λ f. z),
-            (λ t. absurd (omega (arith, t, z)), λ b. absurd (f b)),
-          )
+  by-breaking none e a =
+      let b : Breakable = no-10-exactly m x us .0 e in
+      let z : out .0 .number ≡ 0 = ap (λ (c : EditAnswer). c .number) a in (
+        (λ t. absurd (omega (arith, t, z)), λ f. absurd (f b)),
+        (λ t. b, λ b. z),
+      )
+  by-breaking (some i) e a =
+      let f : Breakable → ⊥ = answer-10 m x us i e .0 in
+      let z : out .0 .number ≡ 10 = ap (λ (c : EditAnswer). c .number) a in (
+        (λ t. f, λ f. z),
+        (λ t. absurd (omega (arith, t, z)), λ b. absurd (f b)),
+      )
 
-  -- and its place is the first record of the first run that is too wide
-  pub place-10 : out .0 .number ≡ 10 → FirstWide m x (runs us) (out .0 .place)
-  place-10 z = answer-10 m x us _ (found-10 z) .1
+  exactly : NoneDue → ((out .0 .number ≡ 10) ↔ (Breakable → ⊥)) × ((out .0 .number ≡ 0) ↔ Breakable)
+  exactly h = by-breaking (noBreaking m x us) refl (due-10 h)
+
+  -- so 10 is given exactly where no earlier answer is due and no choice of permitted breaks fits the measure, and 0
+  -- exactly where none is due and one does
+  pub exactly-10 : (out .0 .number ≡ 10) ↔ (NoneDue × (Breakable → ⊥))
+  unfolding callRows slotRows
+  exactly-10 = (
+    λ z. let e = none-due 10 refl refl (λ t. omega (arith, t)) (λ t. omega (arith, t)) z in (e, exactly e .0 .0 z),
+    λ h. exactly (h .0) .0 .1 (h .1),
+  )
+
+  pub exactly-0 : (out .0 .number ≡ 0) ↔ (NoneDue × Breakable)
+  unfolding callRows slotRows
+  exactly-0 = (
+    λ z. let e = none-due 0 refl refl (λ t. omega (arith, t)) (λ t. omega (arith, t)) z in (e, exactly e .1 .0 z),
+    λ h. exactly (h .0) .1 .1 (h .1),
+  )

@@ -1,29 +1,32 @@
--- What is proved of the calls on a sheet, in reading order: each claim is proved by one citation. The words of the
--- claims are defined in specs/Book.antt and specs/Meanings.antt; runs of calls, and what demand 3 says of them, in
--- proofs/Runs.antt and proofs/Booked.antt; the rules in crate `rules`, whose own proofs/Claims.antt has what is proved
--- of them alone. Assumes nothing.
-use mathlib.Core.Path.{_≡_, refl}
-use Prim.Native.Nat.{ℕ, _-_, _*_}
+-- What is proved of the calls on a sheet, in reading order: each claim is proved by one citation. All but the last speak
+-- of runs of the calls themselves, defined over their contracts in proofs/Runs.antt; what demand 3 says of a sequence of
+-- runs is proofs/Booked.antt. The other words of the claims are defined in specs/Book.antt and specs/Meanings.antt; the
+-- rules in crate `rules`, whose own proofs/Claims.antt has what is proved of them alone. Assumes nothing.
+use mathlib.Core.Path.{_≡_}
+use Prim.Native.Nat.{ℕ, _*_}
 use mathlib.Core.List.{List, []}
 use mathlib.Core.Logic.{_↔_}
 use lib.ListN.{length, getD, take, drop}
+use denote.Ref.{now}
 use Rattle.rules.specs.Basics.{Run as RunOf}
 use Rattle.rules.specs.Groups.{TextUnit, units}
 use Rattle.rules.specs.Breaks.{runs, breaking}
 use Rattle.rules.specs.Adjustment.{compose}
 use Rattle.rules.specs.Sheet.{lineWords, lineCountOf, measureOf, indentOf, slotAt}
-use Rattle.rules.specs.Refusals.{Answer, edited, edit, readNumber, readPart, readWords}
+use Rattle.rules.specs.Refusals.{Outcome, edited}
 use Rattle.rules.specs.Meanings.{Choice, Fits, Longest, FirstWide}
 use Rattle.rules.proofs.Claims.{lines-chosen}
-use Rattle.sheet.specs.Book.{Call, call-edit, call-read, Reply, numberOf, step}
-use Rattle.sheet.specs.Meanings.{Outside, AlikeFor, NoEarlier, Spliced}
+use Rattle.sheet.specs.Book.{SlotCall, reads, Call, call-on, Reply, read-reply, numberOf, step}
+use Rattle.sheet.specs.Book.{BookSlot, bookStep}
+use Rattle.sheet.specs.Meanings.{Outside, AlikeFor, LeftAlike, NoEarlier, Spliced}
 use Rattle.sheet.specs.declared.Clinic.{Clinic}
 use Rattle.sheet.specs.declared.SlotNumber.{SlotNumber}
-use Rattle.sheet.proofs.Reading.{read-slot, read-none, part-words}
-use Rattle.sheet.proofs.Frame.{edit-frame, refused-unchanged, step-length}
-use Rattle.sheet.proofs.Changes.{accepted-edit, read-after, found-0, exactly-10, place-10}
-use Rattle.sheet.proofs.Alike.{same-reply}
-use Rattle.sheet.proofs.Runs.{Run, call, before, after, reply, Chained, told}
+use Rattle.sheet.proofs.Stays.{book-refused}
+use Rattle.sheet.proofs.Runs.{EditRun, caller, slot, place, deleted, inserted, answer, slotBefore, slotAfter}
+use Rattle.sheet.proofs.Runs.{Run, call, before, after, reply, Chained}
+use Rattle.sheet.proofs.Told.{told}
+use Rattle.sheet.proofs.RunLaws.{run-unchanged, run-length, run-alike, run-frame, read-lines, read-nothing}
+use Rattle.sheet.proofs.RunLaws.{read-kept, run-splices, run-found-0, run-0, run-10, run-10-place, run-read}
 use Rattle.sheet.proofs.Booked.{Begun, AsBooked}
 use Rattle.sheet.proofs.Histories.{as-booked}
 use Rattle.sheet.proofs.setting.set_up.Statement as set-up-contract
@@ -56,90 +59,94 @@ pub read-number-meets : {M : Type 1} → read-number-contract.statement M
 read-number-meets = read-number-met.met
 
 -- so a run of a call replies, and leaves in the sheet, what `step` says
-pub runs-step : (r : Run) → _≡_ {A = Reply × List ℕ} (reply r, after r) (step (call r) (before r))
+pub runs-step : (r : Run) → _≡_ {A = Outcome Reply} (reply r, after r) (step (call r) (before r))
 runs-step r = told r
 
 -- every refusal leaves the whole sheet unchanged, and no call changes its length
-pub refusals-change-nothing : (c : Call) (ws : List ℕ) → (numberOf (step c ws .0) ≡ 0 → ⊥) → step c ws .1 ≡ ws
-refusals-change-nothing c ws h = refused-unchanged c ws h
+pub refusals-change-nothing : (r : Run) → (numberOf (reply r) ≡ 0 → ⊥) → after r ≡ before r
+refusals-change-nothing r h = run-unchanged r h
 
-pub length-kept : (c : Call) (ws : List ℕ) → length (step c ws .1) ≡ length ws
-length-kept c ws = step-length c ws
+pub length-kept : (r : Run) → length (after r) ≡ length (before r)
+length-kept r = run-length r
 
 -- Demand 2: what an edit does to its slot, and what a read hands back ------------------------------------------------
 
-module _ (ws : List ℕ) (caller k place deleted : ℕ) (inserted : List ℕ) where
-  -- the answer, the sheet that is left and the units of the slot's new records; the slot's measure and indent
-  abbrev answer : Answer
-  answer = edit ws caller k place deleted inserted .0
-
-  abbrev left : List ℕ
-  left = edit ws caller k place deleted inserted .1
-
+module _ (u : EditRun) where
+  -- the units of the slot's new records; the slot's measure and indent
   abbrev us : List TextUnit
-  us = units (edited (slotAt ws k) place deleted inserted)
+  us = units (edited (slotBefore u) (place u) (deleted u) (inserted u))
 
   abbrev m : ℕ
-  m = measureOf (slotAt ws k)
+  m = measureOf (slotBefore u)
 
   abbrev x : ℕ
-  x = indentOf (slotAt ws k)
+  x = indentOf (slotBefore u)
 
   -- accepted: exactly the named stretch of records is replaced, and the slot's words are those of its records
-  pub edit-splices : answer .number ≡ 0 → Spliced (slotAt ws k) (slotAt left k) answer place deleted inserted
-  edit-splices h = accepted-edit ws caller k place deleted inserted h
+  pub edit-splices : answer u .number ≡ 0 →
+      Spliced (slotBefore u) (slotAfter u) (answer u) (place u) (deleted u) (inserted u)
+  edit-splices h = run-splices u h
 
   -- the lines are a choice of permitted breaks, every line fits, and each is the longest
-  pub edit-lines : answer .number ≡ 0 →
+  pub edit-lines : answer u .number ≡ 0 →
       Choice us (breaking m x (runs us)) × Fits m x (breaking m x (runs us)) × Longest m x (breaking m x (runs us))
-  edit-lines h = lines-chosen m x us (found-0 ws caller k place deleted inserted h)
+  edit-lines h = lines-chosen m x us (run-found-0 u h)
 
-  -- where no earlier answer is due, 10 is given exactly where no choice of permitted breaks fits, and 0 exactly where
-  -- one does
-  pub edit-10-exactly : NoEarlier ws caller k place deleted inserted →
-      let fitting = (ls : List (RunOf TextUnit)) × Choice us ls × Fits m x ls in
-      ((answer .number ≡ 10) ↔ (fitting → ⊥)) × ((answer .number ≡ 0) ↔ fitting)
-  edit-10-exactly h = exactly-10 ws caller k place deleted inserted h
+  -- no earlier answer is due; some choice of permitted breaks fits the measure
+  abbrev NoneDue : Type 0
+  NoneDue = NoEarlier (now (u .args .0)) (caller u .0) (slot u .0) (place u) (deleted u) (inserted u)
+
+  abbrev Breakable : Type 0
+  Breakable = (ls : List (RunOf TextUnit)) × Choice us ls × Fits m x ls
+
+  -- 0 and 10, each exactly where it is due
+  pub edit-0-exactly : (answer u .number ≡ 0) ↔ (NoneDue × Breakable)
+  edit-0-exactly = run-0 u
+
+  pub edit-10-exactly : (answer u .number ≡ 10) ↔ (NoneDue × (Breakable → ⊥))
+  edit-10-exactly = run-10 u
 
   -- at the first record of the first run that is too wide
-  pub edit-10-place : answer .number ≡ 10 → FirstWide m x (runs us) (answer .place)
-  edit-10-place h = place-10 ws caller k place deleted inserted h
+  pub edit-10-place : answer u .number ≡ 10 → FirstWide m x (runs us) (answer u .place)
+  edit-10-place h = run-10-place u h
 
   -- a read by the same caller then hands back the line words that the rules give the records
-  pub read-after-edit : answer .number ≡ 0 →
-      (readNumber left caller k ≡ 0) × (readWords left caller k ≡ lineWords 0 (compose m x us))
-  read-after-edit h = read-after ws caller k place deleted inserted h
+  pub read-after-edit : answer u .number ≡ 0 → (r : Run) → call r ≡ call-on (caller u) (slot u) reads →
+      before r ≡ now (u .exit .0) → reply r ≡ read-reply 0 (lineWords 0 (compose m x us))
+  read-after-edit h r e f = run-read u h r e f
 
--- on a sheet of any words, a read that is not refused hands back the slot's used line words
-pub read-hands-back : (ws : List ℕ) (caller k : ℕ) → readNumber ws caller k ≡ 0 →
-    readWords ws caller k ≡ take (3 * lineCountOf (slotAt ws k)) (drop 2056 (slotAt ws k))
-read-hands-back ws caller k h = read-slot ws caller k h
+module _ (r : Run) (c : Clinic) (k : SlotNumber) (e : call r ≡ call-on c k reads) where
+  -- on a sheet of any words, a read that is not refused hands back the slot's used line words
+  pub read-hands-back : numberOf (reply r) ≡ 0 →
+      let s = slotAt (before r) (k .0) in
+      reply r ≡ read-reply 0 (take (3 * lineCountOf s) (drop 2056 s))
+  read-hands-back h = read-lines r c k e h
 
--- a refused one hands back nothing
-pub read-hands-none : (ws : List ℕ) (caller k : ℕ) → (readNumber ws caller k ≡ 0 → ⊥) → readWords ws caller k ≡ []
-read-hands-none ws caller k h = read-none ws caller k h
+  -- a refused one hands back nothing
+  pub read-hands-none : (numberOf (reply r) ≡ 0 → ⊥) → reply r ≡ read-reply (numberOf (reply r)) []
+  read-hands-none h = read-nothing r c k e h
 
--- the part that the export tells by start and end is the same words
-pub read-part-words : (ws : List ℕ) (caller k : ℕ) →
-    let p = readPart ws caller k in
-    take (p .1 - p .0) (drop (p .0) ws) ≡ readWords ws caller k
-read-part-words ws caller k = part-words ws caller k
-
--- Demand 3: sequences of calls, an edit's reach, and two sheets ------------------------------------------------------
+-- Demand 3: sequences of calls, a call's reach, and two sheets -------------------------------------------------------
 
 -- a sequence of runs, on a sheet of any words, that begins with an accepted set-up or with refused ones before it: one
 -- claim about the whole of it
 pub demand-3 : (ws : List ℕ) (rs : List Run) → Begun rs → Chained ws rs → AsBooked ws rs
 demand-3 ws rs b c = as-booked ws rs b c
 
--- an edit changes no word outside the named slot, and a read none at all
-pub edit-reach : (ws : List ℕ) (caller : Clinic) (k : SlotNumber) (place deleted : ℕ) (inserted : List ℕ) →
-    (i : ℕ) → Outside (k .0) i → getD (step (call-edit caller k place deleted inserted) ws .1) i 0 ≡ getD ws i 0
-edit-reach ws caller k place deleted inserted i h = edit-frame ws (caller .0) (k .0) place deleted inserted i h
+-- a call on a slot changes no word outside it, and a read none at all
+pub reach : (r : Run) (c : Clinic) (k : SlotNumber) (q : SlotCall) → call r ≡ call-on c k q →
+    (i : ℕ) → Outside (k .0) i → getD (after r) i 0 ≡ getD (before r) i 0
+reach r c k q e i h = run-frame r c k q e i h
 
-pub read-reach : (ws : List ℕ) (caller : Clinic) (k : SlotNumber) → step (call-read caller k) ws .1 ≡ ws
-read-reach ws caller k = refl
+pub read-reach : (r : Run) (c : Clinic) (k : SlotNumber) → call r ≡ call-on c k reads → after r ≡ before r
+read-reach r c k e = read-kept r c k e
 
--- two sheets: where they are alike for a call, it is answered the same
-pub two-sheets : (c : Call) (ws vs : List ℕ) → AlikeFor c ws vs → step c ws .0 ≡ step c vs .0
-two-sheets c ws vs a = same-reply c ws vs a
+-- two sheets: where they are alike for a call, two runs of it reply the same, and leave the caller's own slot the same
+pub two-sheets : (r q : Run) → call r ≡ call q → AlikeFor (call r) (before r) (before q) →
+    (reply r ≡ reply q) × LeftAlike (call r) (reply r) (before r) (after r) (after q)
+two-sheets r q e a = run-alike r q e a
+
+-- a refused call changes nothing in the book
+pub book-refusals : (n : ℕ) (c : Call) (b : List BookSlot) → (numberOf (bookStep n c b .0) ≡ 0 → ⊥) →
+    bookStep n c b .1 ≡ b
+book-refusals n c b h = book-refused n c b h

@@ -13,23 +13,23 @@ use Rattle.rules.specs.Records.{badRecord}
 use Rattle.rules.specs.Basics.{cut}
 use Rattle.rules.specs.Groups.{groupFault, units}
 use Rattle.rules.specs.Breaks.{runs, wideRun, noBreaking}
-use Rattle.rules.specs.Sheet.{clinicOf, slotLimitsOk, slotAt, withSlot}
-use Rattle.rules.specs.Refusals.{judged, badSlot, freshSlots}
+use Rattle.rules.specs.Sheet.{Setting, clinicOf, slotLimitsOk, slotAt, withSlot}
+use Rattle.rules.specs.Refusals.{judged, settingAt, badSlot, freshSlots}
 use Rattle.rules.specs.Meanings.{All, all-none, all-more}
 use Rattle.rules.proofs.Facts.{tested, ordered, some-none}
 use Rattle.sheet.specs.Book.{BookSlot, bookAt, emptySlots, encodeSlot, encode}
 use Rattle.sheet.proofs.Entry.{clinic-at}
-use Rattle.sheet.proofs.Words.{length-slot, slot-clinic, slot-fresh}
+use Rattle.sheet.proofs.Words.{length-slot, slot-setting, slot-fresh}
 
 -- Well-formed books -------------------------------------------------------------------------------------------------
 
 -- a slot within its limits, whose records are at most 256 and fall under none of 8, 9 and 10; an unassigned one has
 -- none
 pub record Sound (s : BookSlot) : Type 0 where
-  pub limits : slotLimitsOk (s .clinic) (s .measure) (s .indent) ≡ true
-  pub unassigned : s .clinic ≡ 0 → s .records ≡ []
+  pub limits : slotLimitsOk (s .setting) ≡ true
+  pub unassigned : s .setting .clinic ≡ 0 → s .records ≡ []
   pub few : length (s .records) ≤ 256
-  pub right : judged (s .measure) (s .indent) (s .records) .number ≡ 0
+  pub right : judged (s .setting .measure) (s .setting .indent) (s .records) .number ≡ 0
 
 -- a book of a sheet of n words
 pub record WellFormed (n : ℕ) (b : List BookSlot) : Type 0 where
@@ -57,7 +57,7 @@ module _ {A : Type 0} {P : A → Type 0} where
 -- Where the words stand ---------------------------------------------------------------------------------------------
 
 pub length-encode-slot : {s : BookSlot} → Sound s → length (encodeSlot s) ≡ 2824
-length-encode-slot {s} h = length-slot (s .clinic) (s .measure) (s .indent) (s .records) (h .few)
+length-encode-slot {s} h = length-slot (s .setting) (s .records) (h .few)
 
 pub length-encode : {b : List BookSlot} → All Sound b → length (encode b) ≡ 2824 * length b
 length-encode all-none = omega arith
@@ -106,14 +106,16 @@ module _ (b : List BookSlot) (h : All Sound b) (k : ℕ) (within : k < length b)
       (sym (ap encode (set-split b k t within) ∙ encode-append (take k b) (t ∷ drop (suc k) b)))
 
 -- the clinic of any slot, also past the end
-pub clinic-of : (b : List BookSlot) → All Sound b → (k : ℕ) → clinicOf (slotAt (encode b) k) ≡ bookAt b k .clinic
+pub clinic-of : (b : List BookSlot) → All Sound b → (k : ℕ) → clinicOf (slotAt (encode b) k) ≡ bookAt b k .setting .clinic
 clinic-of b h k =
     elim (ordered k (length b)) [
-      | inl w ↦ ap clinicOf (slot-of b h k w) ∙ slot-clinic _ _ _ (bookAt b k .records)
+      | inl w ↦
+          ap clinicOf (slot-of b h k w)
+          ∙ ap (λ (t : Setting). t .clinic) (slot-setting (bookAt b k .setting) (bookAt b k .records))
       | inr w ↦
           clinic-at (encode b) k
           ∙ List·getD-eq-default (encode b) 0 {n = 2824 * k} (omega (arith, length-encode h))
-          ∙ sym (ap (λ s. s .clinic) (List·getD-eq-default b _ {n = k} w))
+          ∙ sym (ap (λ s. s .setting .clinic) (List·getD-eq-default b _ {n = k} w))
     ]
 
 -- What set-up leaves ------------------------------------------------------------------------------------------------
@@ -122,9 +124,14 @@ pub none-right : (m x : ℕ) → judged m x [] .number ≡ 0
 unfolding judged badRecord groupFault noBreaking wideRun runs units cut
 none-right m x = refl
 
-sound-none : (c m x : ℕ) → slotLimitsOk c m x ≡ true →
-    Sound (record { clinic = c; measure = m; indent = x; records = [] })
-sound-none c m x t = record { limits = t; unassigned = λ e. refl; few = omega arith; right = none-right m x }
+pub sound-none : (t : Setting) → slotLimitsOk t ≡ true → Sound (record { setting = t; records = [] })
+sound-none t e =
+    record {
+      limits = e;
+      unassigned = λ z. refl;
+      few = omega arith;
+      right = none-right (t .measure) (t .indent);
+    }
 
 module _ (cs ms xs : List ℕ) where
   pub encode-empty : (k n : ℕ) → freshSlots k cs ms xs n ≡ encode (emptySlots k cs ms xs n)
@@ -141,9 +148,9 @@ module _ (cs ms xs : List ℕ) where
   unfolding badSlot emptySlots
   sound-empty k zero e = all-none
   sound-empty k (suc n) e =
-      elim (tested (slotLimitsOk (getD cs k 0) (getD ms k 0) (getD xs k 0))) [
+      elim (tested (slotLimitsOk (settingAt cs ms xs k))) [
         | inl t ↦
-            all-more (sound-none _ _ _ t)
+            all-more (sound-none _ t)
             (sound-empty (suc k) n (rw (t, badSlot) at e))
         | inr t ↦ let f : some k ≡ none = rw (t, badSlot) at e in absurd (some-none f)
       ]

@@ -14,7 +14,7 @@ use borrow.Author.Tests.{leb-false, le-leb, lt-leb}
 use borrow.Author.Tests.{eqb-true, eqb-false, eq-eqb, ne-eqb, not-false}
 use Rattle.rules.specs.Basics.{within}
 use Rattle.rules.specs.Sheet.{clinicOf, slotCount, lengthOk, slotAt, withSlot}
-use Rattle.rules.specs.Refusals.{Answer, says, Outcome, callRows, called, editSlot, edit}
+use Rattle.rules.specs.Refusals.{Answer, says, Outcome, callRows, called, onSlot}
 use Rattle.sheet.proofs.Tables.{passed}
 use Rattle.sheet.proofs.Lengths.{or-left, or-right, Whole, whole}
 
@@ -79,22 +79,24 @@ module _ (ws : List ℕ) (caller k : ℕ) where
         own = eqb-true _ _ (not-false _ (or-right (eqb caller 0) _ r));
       }
 
--- An edit -----------------------------------------------------------------------------------------------------------
+-- A call on a slot, as a program makes it ---------------------------------------------------------------------------
 
-module _ (ws : List ℕ) (caller k place deleted : ℕ) (inserted : List ℕ) where
-  abbrev done : Outcome
-  done = edit ws caller k place deleted inserted
+module _ {A : Type 0} (refused : Answer → A) (ws : List ℕ) (caller k : ℕ) (f : List ℕ → Outcome A) where
+  abbrev done : Outcome A
+  done = onSlot refused ws caller k f
 
-  pub edit-refused : (a : Answer) → a ≡ called ws caller k → (a .number ≡ 0 → ⊥) → _≡_ {A = Outcome} (a, ws) done
-  unfolding edit
-  edit-refused a e z = rw (← e, ne-eqb (a .number) 0 z)
+  -- one of the rows 1 to 3 applies
+  pub on-refused : (a : Answer) → a ≡ called ws caller k → (a .number ≡ 0 → ⊥) →
+      _≡_ {A = Outcome A} (refused a, ws) done
+  unfolding onSlot
+  on-refused a e z = rw (← e, ne-eqb (a .number) 0 z)
 
-  -- a call on the part that is slot k, said of the sheet
-  pub edit-entered : (a : Answer) (last : List ℕ) → called ws caller k .number ≡ 0 →
+  -- none does: what is done on the part that is slot k, said of the sheet
+  pub on-entered : (a : A) (last : List ℕ) → called ws caller k .number ≡ 0 →
       let n = 2824 * k + 2824 - 2824 * k in
-      _≡_ {A = Outcome} (a, last) (editSlot (take n (drop (2824 * k) ws)) place deleted inserted) →
-      _≡_ {A = Outcome} (a, putMid (2824 * k) n ws last) done
-  unfolding edit
-  edit-entered a last z h =
+      _≡_ {A = Outcome A} (a, last) (f (take n (drop (2824 * k) ws))) →
+      _≡_ {A = Outcome A} (a, putMid (2824 * k) n ws last) done
+  unfolding onSlot
+  on-entered a last z h =
       let n : 2824 * k + 2824 - 2824 * k ≡ 2824 = omega arith in
-      rw (n, eq-eqb _ _ z) (ap (λ (o : Outcome). (o .0, withSlot ws k (o .1))) (rw n at h))
+      rw (n, eq-eqb _ _ z) (ap (λ (o : Outcome A). (o .0, withSlot ws k (o .1))) (rw n at h))

@@ -11,8 +11,8 @@ use lib.Seq.{take-at, drop-at, drop-drop}
 use borrow.Author.Fill.{fill-none, fill-more}
 use borrow.Rule.Slice.PartMut.{putMid, same-len-mid}
 use Rattle.rules.specs.Basics.{zeros}
-use Rattle.rules.specs.Sheet.{fresh}
-use Rattle.rules.specs.Refusals.{freshSlots}
+use Rattle.rules.specs.Sheet.{setting, fresh}
+use Rattle.rules.specs.Refusals.{settingAt, freshSlots}
 use Rattle.rules.proofs.Zeros.{length-zeros, zeros-append}
 
 -- Zeros -------------------------------------------------------------------------------------------------------------
@@ -45,7 +45,7 @@ clear-all {old} {words} {i} c h =
 
 -- the stores of a fresh slot
 pub stores : (words : List ℕ) (clinic m x : ℕ) → words ≡ zeros 2824 →
-    set (set (set words 0 clinic) 1 m) 2 x ≡ fresh clinic m x
+    set (set (set words 0 clinic) 1 m) 2 x ≡ fresh (setting clinic m x)
 unfolding zeros
 stores words clinic m x e = rw e
 
@@ -59,7 +59,7 @@ module _ (cs ms xs : List ℕ) where
       simp (length-append, length-zeros) (omega (arith, length-fresh-slots (suc k) n))
 
   freshAt : ℕ → List ℕ
-  freshAt k = fresh (getD cs k 0) (getD ms k 0) (getD xs k 0)
+  freshAt k = fresh (settingAt cs ms xs k)
 
   fresh-slots-last : (k n : ℕ) → freshSlots k cs ms xs (suc n) ≡ freshSlots k cs ms xs n ++ freshAt (k + n)
   unfolding freshSlots freshAt
@@ -96,7 +96,7 @@ module _ (cs ms xs : List ℕ) where
 
   pub write-more : {old sheet last : List ℕ} {k : ℕ} → Written old sheet k → k < length cs →
       length last ≡ length (take (2824 * k + 2824 - 2824 * k) (drop (2824 * k) sheet)) →
-      last ≡ fresh (getD cs k 0) (getD ms k 0) (getD xs k 0) →
+      last ≡ fresh (settingAt cs ms xs k) →
       Written old (putMid (2824 * k) (2824 * k + 2824 - 2824 * k) sheet last) (k + 1)
   unfolding freshAt
   write-more {old} {sheet} {last} {k} w h f e =

@@ -10,53 +10,68 @@ use borrow.Author.Tests.{eq-eqb, ne-eqb}
 use denote.Ref.{now}
 use Rattle.rules.specs.Records.{recordWords}
 use Rattle.rules.specs.Sheet.{clinicOf, lengthOk, slotCount, slotAt, withSlot}
-use Rattle.rules.specs.Refusals.{Answer, says, Outcome, judged, called, editSlot, edit, setUpAnswer, setUp}
-use Rattle.sheet.specs.Book.{BookSlot, bookAt, Reply, answered, numberOf, step, freshSlot, encodeSlot}
-use Rattle.sheet.specs.Book.{inWords, runBook}
+use Rattle.rules.specs.Refusals.{Answer, says, EditAnswer, asEdit, Outcome, judged, called, editSlot}
+use Rattle.rules.specs.Refusals.{setUpAnswer, setUp}
+use Rattle.sheet.specs.Book.{SlotCall, edits, Call, call-on, Reply, set-up-reply, edit-reply, numberOf}
+use Rattle.sheet.specs.Book.{refusal, inSlot, step, BookSlot, bookAt, freshSlot, encodeSlot, inWords, runBook}
+use Rattle.sheet.specs.declared.Clinic.{Clinic}
+use Rattle.sheet.specs.declared.SlotNumber.{SlotNumber}
 use Rattle.sheet.proofs.Tables.{same-number}
 use Rattle.sheet.proofs.Entry.{called-0}
-use Rattle.sheet.proofs.Encode.{Sound, WellFormed, all-at, length-encode-slot, slot-of}
+use Rattle.sheet.proofs.OnSlot.{on-entering, on-slot}
+use Rattle.sheet.proofs.Encode.{Sound, WellFormed, all-at, slot-of}
 use Rattle.sheet.proofs.Slots.{single-edit, single-is}
+use Rattle.sheet.proofs.SlotCalls.{keeps}
 use Rattle.sheet.proofs.Sequences.{begins-book, refused-book, remains, whole-sequence, restarts, never-4}
-use Rattle.sheet.proofs.Frame.{edit-entering, room, slot-with, refused-unchanged, step-length}
-use Rattle.sheet.proofs.Runs.{SetUpRun, Run, set-up-run, call, before, after, reply}
-use Rattle.sheet.proofs.Runs.{Chained, final, told, runs-are}
+use Rattle.sheet.proofs.Frame.{refused-unchanged, step-length}
+use Rattle.sheet.proofs.Runs.{SetUpRun, Run, set-up-run, call, before, after, reply, Chained, final}
+use Rattle.sheet.proofs.Told.{told, runs-are}
 use Rattle.sheet.proofs.Booked.{booked, BySingleEdit, Begun, accepted-first, refused-first, AsBooked}
 
 -- The single edit ---------------------------------------------------------------------------------------------------
 
 module _ (s : BookSlot) (h : Sound s) where
-  abbrev all : List ℕ
-  all = recordWords (s .records)
+  abbrev all : SlotCall
+  all = edits 0 0 (recordWords (s .records))
 
   abbrev answer : Answer
-  answer = judged (s .measure) (s .indent) (s .records)
+  answer = judged (s .setting .measure) (s .setting .indent) (s .records)
+
+  in-fresh : inSlot all (freshSlot s) ≡ (edit-reply (asEdit answer), encodeSlot s)
+  in-fresh = ap (λ (o : Outcome EditAnswer). (edit-reply (o .0), o .1)) (single-edit s h)
 
   -- the edit call, on a sheet with a fresh slot j
-  module _ (vs : List ℕ) (j : ℕ) (ok : lengthOk (length vs) ≡ true) (within : j < slotCount vs) where
-    entered-by : slotAt vs j ≡ freshSlot s → (s .clinic ≡ 0 → ⊥) → called vs (s .clinic) j .number ≡ 0
-    entered-by e known =
-        let own : eqb (s .clinic) 0 || not (eqb (s .clinic) (clinicOf (slotAt vs j))) ≡ false
-        = rw (e, ne-eqb _ _ known, eq-eqb (s .clinic) (s .clinic) refl) in
-        same-number (called-0 vs (s .clinic) j ok within own)
+  module _ (vs : List ℕ) (c : Clinic) (j : SlotNumber) (ok : lengthOk (length vs) ≡ true) (within : j .0 < slotCount vs)
+    where
+      entered-by : slotAt vs (j .0) ≡ freshSlot s → c .0 ≡ s .setting .clinic → (c .0 ≡ 0 → ⊥) →
+          called vs (c .0) (j .0) .number ≡ 0
+      entered-by e own known =
+          let entry : eqb (c .0) 0 || not (eqb (c .0) (clinicOf (slotAt vs (j .0)))) ≡ false
+          = rw (e, ne-eqb _ _ known, eq-eqb (c .0) (s .setting .clinic) own) in
+          same-number (called-0 vs (c .0) (j .0) ok within entry)
 
-    call-edits : slotAt vs j ≡ freshSlot s → called vs (s .clinic) j .number ≡ 0 →
-        edit vs (s .clinic) j 0 0 all ≡ (answer, withSlot vs j (encodeSlot s))
-    call-edits e z =
-        edit-entering vs (s .clinic) j 0 0 all z
-        ∙ ap (λ (o : Outcome). (o .0, withSlot vs j (o .1))) (ap (λ w. editSlot w 0 0 all) e ∙ single-edit s h)
+      call-edits : slotAt vs (j .0) ≡ freshSlot s → called vs (c .0) (j .0) .number ≡ 0 →
+          let o = step (call-on c j all) vs in
+          (numberOf (o .0) ≡ 0) × (slotAt (o .1) (j .0) ≡ encodeSlot s)
+      call-edits e z =
+          let f = ap (inSlot all) e ∙ in-fresh in (
+            ap (λ (o : Outcome Reply). numberOf (o .0)) (on-entering (refusal all) vs (c .0) (j .0) (inSlot all) z)
+                ∙ ap (λ (o : Outcome Reply). numberOf (o .0)) f
+                ∙ h .right,
+            on-slot (refusal all) vs (c .0) (j .0) (inSlot all) (keeps all .whole) z
+                ∙ ap (λ (o : Outcome Reply). o .1) f,
+          )
 
   by-single-edit : BySingleEdit s (encodeSlot s)
   by-single-edit =
       record {
         slot = sym (single-is s h);
         unassigned = h .unassigned;
-        call = λ vs j ok within e known.
-            let z = entered-by vs j ok within e known in
-            let f = call-edits vs j ok within e z in
-            let r = room vs (s .clinic) j 0 0 all z in (
-              ap (λ (o : Outcome). o .0 .number) f ∙ h .right,
-              ap (λ (o : Outcome). slotAt (o .1) j) f ∙ slot-with vs j (encodeSlot s) r (length-encode-slot h),
+        by-run = λ r c j e own known ok within f.
+            let t : _≡_ {A = Outcome Reply} (reply r, after r) (step (call-on c j all) (before r)) = rw e at (told r) in
+            let y = call-edits (before r) c j ok within f (entered-by (before r) c j ok within f own known) in (
+              ap (λ (o : Outcome Reply). numberOf (o .0)) t ∙ y .0,
+              ap (λ (o : Outcome Reply). slotAt (o .1) (j .0)) t ∙ y .1,
             );
       }
 
@@ -67,7 +82,7 @@ final-length : (rs : List Run) (ws : List ℕ) → Chained ws rs → length (fin
 final-length [] ws h = refl
 final-length (r ∷ rs) ws h =
     final-length rs (after r) (h .1)
-    ∙ ap (λ (o : Reply × List ℕ). length (o .1)) (told r)
+    ∙ ap (λ (o : Outcome Reply). length (o .1)) (told r)
     ∙ step-length (call r) (before r)
     ∙ ap length (h .0)
 
@@ -94,7 +109,7 @@ module _ (u : SetUpRun) where
 
   set-up-said : (n : ℕ) → length (before (set-up-run u)) ≡ n → said ≡ setUpAnswer n clinics measures indents
   unfolding setUp
-  set-up-said n e = rw (← e) (ap (λ (o : Outcome). o .0) (u .learnt))
+  set-up-said n e = rw (← e) (ap (λ (o : Outcome Answer). o .0) (u .learnt))
 
 -- what all of `AsBooked` follows from: the replies and the words are a well-formed book's
 record Kept (ws : List ℕ) (rs : List Run) : Type 0 where
@@ -121,15 +136,15 @@ kept-refused ws u rs z h rest =
     let r = set-up-run u in
     let a = set-up-said u n (ap length (h .0)) in
     let no : setUpAnswer n (clinics u) (measures u) (indents u) .number ≡ 0 → ⊥ = λ e. z (same-number a ∙ e) in
-    let t : (reply r, after r) ≡ step (call r) ws = rw (h .0) at (told r) in
+    let t : _≡_ {A = Outcome Reply} (reply r, after r) (step (call r) ws) = rw (h .0) at (told r) in
     let unchanged : after r ≡ ws
-    = ap (λ (o : Reply × List ℕ). o .1) t
-    ∙ refused-unchanged (call r) ws (λ e. z (ap (λ (o : Reply × List ℕ). numberOf (o .0)) t ∙ e)) in
+    = ap (λ (o : Outcome Reply). o .1) t
+    ∙ refused-unchanged (call r) ws (λ e. z (ap (λ (o : Outcome Reply). numberOf (o .0)) t ∙ e)) in
     let k = rest (subst (λ vs. Chained vs rs) unchanged (h .1)) in
     let book : booked n (r ∷ rs) ≡ (reply r ∷ booked n rs .0, booked n rs .1)
     = ap
     (λ (o : Reply × List BookSlot). let l = runBook n (map call rs) (o .1) in (o .0 ∷ l .0, l .1))
-    (refused-book n (clinics u) (measures u) (indents u) [] no ∙ ap (λ (o : Answer). (answered o, [])) (sym a)) in
+    (refused-book n (clinics u) (measures u) (indents u) [] no ∙ ap (λ (o : Answer). (set-up-reply o, [])) (sym a)) in
     record {
       well = rw book (k .well);
       same = ap (λ vs. (reply r ∷ map reply rs, final vs rs)) unchanged

@@ -12,7 +12,7 @@ use lib.Dec.{eqb}
 use lib.ListN.{length, getD}
 use borrow.Author.Tests.{eqb-true, eq-eqb, ne-eqb, not-false}
 use Rattle.rules.specs.Sheet.{slotLimitsOk, lengthOk}
-use Rattle.rules.specs.Refusals.{Answer, says, Outcome, orElse, badSlot, freshSlots, setUpAnswer, setUp}
+use Rattle.rules.specs.Refusals.{Answer, says, Outcome, orElse, settingAt, badSlot, freshSlots, setUpRows, setUpAnswer, setUp}
 use Rattle.rules.proofs.Facts.{tested}
 use Rattle.sheet.specs.Lists.{Matched}
 use Rattle.sheet.proofs.Tables.{same-number}
@@ -20,7 +20,7 @@ use Rattle.sheet.proofs.Lengths.{or-left, or-right, whole}
 
 module _ (cs ms xs : List ℕ) where
   abbrev good : ℕ → Bool
-  good k = slotLimitsOk (getD cs k 0) (getD ms k 0) (getD xs k 0)
+  good k = slotLimitsOk (settingAt cs ms xs k)
 
   -- a search for a slot out of limits: what is left from slot k on gives what the whole gives
   pub record Searched (k : ℕ) : Type 0 where
@@ -96,12 +96,12 @@ module _ (cs ms xs : List ℕ) where
       }
 
   pub answer-1 : (n : ℕ) → misfit n ≡ true → says 1 0 ≡ setUpAnswer n cs ms xs
-  unfolding setUpAnswer
+  unfolding setUpRows setUpAnswer
   answer-1 n e = rw e
 
   pub answer-11 : (n : ℕ) → misfit n ≡ false → (a : Answer) →
       a ≡ orElse 11 (badSlot 0 cs ms xs (length cs)) (says 0 (length cs)) → a ≡ setUpAnswer n cs ms xs
-  unfolding setUpAnswer
+  unfolding setUpRows setUpAnswer
   answer-11 n e a h =
       rw e (h ∙ ap (λ p. orElse 11 (badSlot 0 cs ms xs p) (says 0 p)) (fitting n e .slots))
 
@@ -127,12 +127,12 @@ module _ (cs ms xs : List ℕ) where
 
   -- set-up as a whole
   pub set-up-refused : (ws : List ℕ) (a : Answer) → a ≡ setUpAnswer (length ws) cs ms xs → (a .number ≡ 0 → ⊥) →
-      _≡_ {A = Outcome} (a, ws) (setUp ws cs ms xs)
+      _≡_ {A = Outcome Answer} (a, ws) (setUp ws cs ms xs)
   unfolding setUp
   set-up-refused ws a e z = rw (← e, ne-eqb (a .number) 0 z)
 
   pub set-up-accepted : (ws last : List ℕ) (a : Answer) → a ≡ setUpAnswer (length ws) cs ms xs → a .number ≡ 0 →
-      last ≡ freshSlots 0 cs ms xs (length cs) → _≡_ {A = Outcome} (a, last) (setUp ws cs ms xs)
+      last ≡ freshSlots 0 cs ms xs (length cs) → _≡_ {A = Outcome Answer} (a, last) (setUp ws cs ms xs)
   unfolding setUp
   set-up-accepted ws last a e z h =
       let s = accepted (length ws) (same-number (sym e) ∙ z) .slots in

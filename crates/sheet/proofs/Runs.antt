@@ -1,59 +1,108 @@
--- Runs of the calls themselves, of which demand 3 speaks. A run of a call is its arguments, its result, its parameters
+-- Runs of the calls themselves, of which the claims speak. A run of a call is its arguments, its result, its parameters
 -- at exit, and what the call's own contract promises of these: `edit-reads.Learnt` and the like are what Rattle reads
--- of the contracts in src/. So a change of a contract changes the claim. Assumes nothing.
-use mathlib.Core.Path.{_≡_, refl, ap, _∙_}
-use Prim.Native.Nat.{ℕ}
-use mathlib.Core.List.{List, [], _∷_, map}
+-- of the contracts in src/. So a change of a contract changes the claims. Assumes nothing.
+use mathlib.Core.Path.{_≡_}
+use Prim.Native.Nat.{ℕ, _-_}
+use mathlib.Core.List.{List, [], _∷_}
+use lib.ListN.{take, drop}
 use contract.Lifetimes.{Lfts}
 use denote.Ref.{now}
 use denote.Triple.Clauses.{AtExit}
-use borrow.Fn.Kinds.{Dens, resT, endedOf}
-use Rattle.rules.specs.Refusals.{says, Outcome, readNumber, readWords}
-use Rattle.sheet.specs.Book.{Call, call-set-up, call-edit, call-read, Reply, answered, handed, step, runSheet}
+use borrow.Fn.Kinds.{PK, RK, Out, Dens, resT, endedOf}
+use Rattle.rules.specs.Sheet.{slotAt}
+use Rattle.rules.specs.Refusals.{says, EditAnswer, editSays}
+use Rattle.sheet.specs.Book.{Call, call-set-up, call-on, edits, reads}
+use Rattle.sheet.specs.Book.{Reply, set-up-reply, edit-reply, read-reply}
+use Rattle.sheet.specs.declared.Clinic.{Clinic}
+use Rattle.sheet.specs.declared.SlotNumber.{SlotNumber}
 use Rattle.sheet.proofs.edit.Kinds as edit-kinds
 use Rattle.sheet.proofs.edit.Reads as edit-reads
 use Rattle.sheet.proofs.setting.set_up.Kinds as set-up-kinds
 use Rattle.sheet.proofs.setting.set_up.Reads as set-up-reads
 use Rattle.sheet.proofs.read.Kinds as read-kinds
 use Rattle.sheet.proofs.read.Reads as read-reads
+use Rattle.sheet.proofs.read_part.Kinds as part-kinds
+use Rattle.sheet.proofs.read_part.Reads as part-reads
 use Rattle.sheet.proofs.read_number.Kinds as number-kinds
 use Rattle.sheet.proofs.read_number.Reads as number-reads
 
 -- Runs --------------------------------------------------------------------------------------------------------------
 
-pub record SetUpRun : Type 0 where
-  pub κs : Lfts 4
-  pub args : Dens κs set-up-kinds.ps
-  pub result : resT set-up-kinds.r κs .Denot
-  pub exit : AtExit (endedOf 4 set-up-kinds.ps set-up-kinds.r) κs
-  pub learnt : set-up-reads.Learnt κs args result exit
+-- a run of a function with n lifetimes, parameters ps and result r, whose contract promises `Learnt`
+pub record Ran (n : ℕ) (ps : List (PK n)) (r : RK n) (Learnt : Out n ps r) : Type 0 where
+  pub κs : Lfts n
+  pub args : Dens κs ps
+  pub result : resT r κs .Denot
+  pub exit : AtExit (endedOf n ps r) κs
+  pub learnt : Learnt κs args result exit
 
-pub record EditRun : Type 0 where
-  pub κs : Lfts 2
-  pub args : Dens κs edit-kinds.ps
-  pub result : resT edit-kinds.r κs .Denot
-  pub exit : AtExit (endedOf 2 edit-kinds.ps edit-kinds.r) κs
-  pub learnt : edit-reads.Learnt κs args result exit
+abbrev pub SetUpRun : Type 0
+SetUpRun = Ran 4 set-up-kinds.ps set-up-kinds.r set-up-reads.Learnt
 
-pub record PartRun : Type 0 where
-  pub κs : Lfts 1
-  pub args : Dens κs read-kinds.ps
-  pub result : resT read-kinds.r κs .Denot
-  pub exit : AtExit (endedOf 1 read-kinds.ps read-kinds.r) κs
-  pub learnt : read-reads.Learnt κs args result exit
+abbrev pub EditRun : Type 0
+EditRun = Ran 2 edit-kinds.ps edit-kinds.r edit-reads.Learnt
 
-pub record NumberRun : Type 0 where
-  pub κs : Lfts 1
-  pub args : Dens κs number-kinds.ps
-  pub result : resT number-kinds.r κs .Denot
-  pub exit : AtExit (endedOf 1 number-kinds.ps number-kinds.r) κs
-  pub learnt : number-reads.Learnt κs args result exit
+abbrev pub SliceRun : Type 0
+SliceRun = Ran 1 read-kinds.ps read-kinds.r read-reads.Learnt
 
--- read and its companion, told the same things
+abbrev pub PartRun : Type 0
+PartRun = Ran 1 part-kinds.ps part-kinds.r part-reads.Learnt
+
+abbrev pub NumberRun : Type 0
+NumberRun = Ran 1 number-kinds.ps number-kinds.r number-reads.Learnt
+
+-- An edit's run: what it was told, found, left and answered
+module _ (u : EditRun) where
+  abbrev pub caller : Clinic
+  caller = u .args .1 .0
+
+  abbrev pub slot : SlotNumber
+  slot = u .args .1 .1 .0
+
+  abbrev pub place : ℕ
+  place = u .args .1 .1 .1 .0
+
+  abbrev pub deleted : ℕ
+  deleted = u .args .1 .1 .1 .1 .0
+
+  abbrev pub inserted : List ℕ
+  inserted = now (u .args .1 .1 .1 .1 .1 .0)
+
+  abbrev pub answer : EditAnswer
+  answer = editSays (u .result .number) (u .result .place)
+
+  -- the named slot's words, before and after
+  abbrev pub slotBefore : List ℕ
+  slotBefore = slotAt (now (u .args .0)) (slot .0)
+
+  abbrev pub slotAfter : List ℕ
+  slotAfter = slotAt (now (u .exit .0)) (slot .0)
+
+-- two calls one after the other, in either order, of which one finds the sheet p and leaves it q, and the other finds r
+-- and leaves s: the sheet before both, and after both
+pub data InTurn (p q r s : List ℕ) : List ℕ → List ℕ → Type 0 where
+  the-one-first : q ≡ r → InTurn p q r s p s
+  the-other-first : s ≡ p → InTurn p q r s r q
+
+-- a read and its companion, told the same things
 pub record ReadRun : Type 0 where
+  pub part : SliceRun
+  pub number : NumberRun
+  pub found : List ℕ
+  pub left : List ℕ
+  pub in-turn : InTurn (now (part .args .0)) (now (part .exit .0)) (now (number .args .0)) (now (number .exit .0)) found
+      left
+  pub same-caller : number .args .1 .0 ≡ part .args .1 .0
+  pub same-slot : number .args .1 .1 .0 ≡ part .args .1 .1 .0
+
+-- the same where the part is told by its start and end
+pub record ReadPartRun : Type 0 where
   pub part : PartRun
   pub number : NumberRun
-  pub same-sheet : now (number .args .0) ≡ now (part .args .0)
+  pub found : List ℕ
+  pub left : List ℕ
+  pub in-turn : InTurn (now (part .args .0)) (now (part .exit .0)) (now (number .args .0)) (now (number .exit .0)) found
+      left
   pub same-caller : number .args .1 .0 ≡ part .args .1 .0
   pub same-slot : number .args .1 .1 .0 ≡ part .args .1 .1 .0
 
@@ -61,29 +110,37 @@ pub data Run : Type 0 where
   set-up-run : SetUpRun → Run
   edit-run : EditRun → Run
   read-run : ReadRun → Run
+  read-part-run : ReadPartRun → Run
 
 -- the call that a run is of, the sheet before it and after it, and its reply
 abbrev pub call : Run → Call
 call (set-up-run u) = call-set-up (now (u .args .1 .0)) (now (u .args .1 .1 .0)) (now (u .args .1 .1 .1 .0))
-call (edit-run u) =
-    let numbers = u .args .1 .1 .1 in
-    call-edit (u .args .1 .0) (u .args .1 .1 .0) (numbers .0) (numbers .1 .0) (now (numbers .1 .1 .0))
-call (read-run u) = call-read (u .part .args .1 .0) (u .part .args .1 .1 .0)
+call (edit-run u) = call-on (caller u) (slot u) (edits (place u) (deleted u) (inserted u))
+call (read-run u) = call-on (u .part .args .1 .0) (u .part .args .1 .1 .0) reads
+call (read-part-run u) = call-on (u .part .args .1 .0) (u .part .args .1 .1 .0) reads
 
 abbrev pub before : Run → List ℕ
 before (set-up-run u) = now (u .args .0)
 before (edit-run u) = now (u .args .0)
-before (read-run u) = now (u .part .args .0)
+before (read-run u) = u .found
+before (read-part-run u) = u .found
 
 abbrev pub after : Run → List ℕ
 after (set-up-run u) = now (u .exit .0)
 after (edit-run u) = now (u .exit .0)
-after (read-run u) = now (u .part .args .0)
+after (read-run u) = u .left
+after (read-part-run u) = u .left
+
+-- the words from `start` up to `end`
+abbrev pub between : ℕ → ℕ → List ℕ → List ℕ
+between start end ws = take (end - start) (drop start ws)
 
 abbrev pub reply : Run → Reply
-reply (set-up-run u) = answered (says (u .result .number) (u .result .place))
-reply (edit-run u) = answered (says (u .result .number) (u .result .place))
-reply (read-run u) = handed (u .number .result) (now (u .part .result))
+reply (set-up-run u) = set-up-reply (says (u .result .number) (u .result .place))
+reply (edit-run u) = edit-reply (answer u)
+reply (read-run u) = read-reply (u .number .result) (now (u .part .result))
+reply (read-part-run u) =
+    read-reply (u .number .result) (between (u .part .result .start) (u .part .result .end) (u .left))
 
 -- Sequences of runs -------------------------------------------------------------------------------------------------
 
@@ -96,22 +153,3 @@ Chained ws (r ∷ rs) = (before r ≡ ws) × Chained (after r) rs
 abbrev pub final : List ℕ → List Run → List ℕ
 final ws [] = ws
 final ws (r ∷ rs) = final (after r) rs
-
--- each run does what the definitions say: its contract
-pub told : (r : Run) → _≡_ {A = Reply × List ℕ} (reply r, after r) (step (call r) (before r))
-told (set-up-run u) = ap (λ (o : Outcome). (answered (o .0), o .1)) (u .learnt)
-told (edit-run u) = ap (λ (o : Outcome). (answered (o .0), o .1)) (u .learnt)
-told (read-run u) =
-    let a = u .part .args in
-    let n : u .number .result ≡ readNumber (now (a .0)) (a .1 .0 .0) (a .1 .1 .0 .0)
-    = rw (u .same-sheet, u .same-caller, u .same-slot) at (u .number .learnt) in
-    ap (λ (l : List ℕ). (handed (u .number .result) l, now (a .0))) (u .part .learnt .0)
-    ∙ ap (λ (k : ℕ). (handed k (readWords (now (a .0)) (a .1 .0 .0) (a .1 .1 .0 .0)), now (a .0))) n
-
-pub runs-are : (rs : List Run) (ws : List ℕ) → Chained ws rs →
-    _≡_ {A = List Reply × List ℕ} (map reply rs, final ws rs) (runSheet (map call rs) ws)
-runs-are [] ws h = refl
-runs-are (r ∷ rs) ws h =
-    let t : (reply r, after r) ≡ step (call r) ws = rw (h .0) at (told r) in
-    ap (λ (o : List Reply × List ℕ). (reply r ∷ o .0, o .1)) (runs-are rs (after r) (h .1))
-    ∙ ap (λ (o : Reply × List ℕ). (o .0 ∷ runSheet (map call rs) (o .1) .0, runSheet (map call rs) (o .1) .1)) t

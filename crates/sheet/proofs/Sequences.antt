@@ -2,24 +2,17 @@
 -- book's words. Assumes nothing.
 use mathlib.Core.Path.{_≡_, refl, ap, _∙_}
 use Prim.Native.Nat.{ℕ, _/_}
-use native.Mathlib.Omega.{arith}
 use mathlib.Core.List.{List, [], _∷_, _++_}
-use mathlib.Core.Option.{Option, none, some}
 use lib.ListN.{length}
 use borrow.Author.Tests.{eq-eqb, ne-eqb}
-use Rattle.rules.specs.Records.{Rec, badRecord}
-use Rattle.rules.specs.Groups.{groupFault, units}
-use Rattle.rules.specs.Breaks.{noBreaking}
-use Rattle.rules.specs.Refusals.{Answer, says, orElse, judged, badSlot, setUpAnswer, setUp}
+use Rattle.rules.specs.Refusals.{Outcome, setUpAnswer, setUp}
 use Rattle.rules.specs.Meanings.{All, all-none, all-more}
-use Rattle.sheet.specs.Book.{Call, call-set-up, call-edit, call-read, Reply, numberOf, step, runSheet, runBook}
-use Rattle.sheet.specs.Book.{BookSlot, bookAt, bookSetUp, bookCallRows, bookEditRows, bookAnswer, bookEdit}
-use Rattle.sheet.specs.Book.{answered, bookRead, bookStep, encode, inWords}
-use Rattle.sheet.proofs.Tables.{passed}
-use Rattle.sheet.proofs.Lists.{misfit}
+use Rattle.sheet.specs.Book.{Call, call-set-up, call-on, Reply, set-up-reply, numberOf, step, runSheet, runBook}
+use Rattle.sheet.specs.Book.{BookSlot, bookSetUp, bookStep, encode, inWords}
+use Rattle.sheet.proofs.AnswerFour.{set-up-not-4}
 use Rattle.sheet.proofs.Encode.{WellFormed, encode-empty}
 use Rattle.sheet.proofs.Steps.{agrees}
-use Rattle.sheet.proofs.Stays.{stays, new-book}
+use Rattle.sheet.proofs.Stays.{stays, new-book, on-book-not-4}
 
 -- from a well-formed book on
 pub sequence : (n : ℕ) (cs : List Call) (b : List BookSlot) → WellFormed n b →
@@ -27,7 +20,7 @@ pub sequence : (n : ℕ) (cs : List Call) (b : List BookSlot) → WellFormed n b
 sequence n [] b g = refl
 sequence n (c ∷ cs) b g =
     let o = bookStep n c b in
-    ap (λ (p : Reply × List ℕ). (p .0 ∷ runSheet cs (p .1) .0, runSheet cs (p .1) .1)) (agrees n b g c)
+    ap (λ (p : Outcome Reply). (p .0 ∷ runSheet cs (p .1) .0, runSheet cs (p .1) .1)) (agrees n b g c)
     ∙ ap (λ (l : List Reply × List ℕ). (o .0 ∷ l .0, l .1)) (sequence n cs (o .1) (stays n b g c))
 
 pub remains : (n : ℕ) (cs : List Call) (b : List BookSlot) → WellFormed n b → WellFormed n (runBook n cs b .1)
@@ -56,12 +49,12 @@ module _ (n : ℕ) (cs ms xs : List ℕ) (z : setUpAnswer n cs ms xs .number ≡
       runSheet (call-set-up cs ms xs ∷ ds) ws ≡ inWords (runBook n (call-set-up cs ms xs ∷ ds) b)
   whole-sequence ws b e ds =
       let o = bookStep n (call-set-up cs ms xs) b in
-      ap (λ (p : Reply × List ℕ). (p .0 ∷ runSheet ds (p .1) .0, runSheet ds (p .1) .1)) (begins ws b e)
+      ap (λ (p : Outcome Reply). (p .0 ∷ runSheet ds (p .1) .0, runSheet ds (p .1) .1)) (begins ws b e)
       ∙ ap (λ (l : List Reply × List ℕ). (o .0 ∷ l .0, l .1)) (sequence n ds (o .1) (begins-book b))
 
 -- a refused set-up changes nothing in the book
 pub refused-book : (n : ℕ) (cs ms xs : List ℕ) (b : List BookSlot) → (setUpAnswer n cs ms xs .number ≡ 0 → ⊥) →
-    bookStep n (call-set-up cs ms xs) b ≡ (answered (setUpAnswer n cs ms xs), b)
+    bookStep n (call-set-up cs ms xs) b ≡ (set-up-reply (setUpAnswer n cs ms xs), b)
 unfolding bookSetUp
 refused-book n cs ms xs b z = rw (ne-eqb _ _ z)
 
@@ -88,33 +81,10 @@ restarts n before cs ms xs after b z =
 
 -- Answer 4 ----------------------------------------------------------------------------------------------------------
 
-else-not-4 : (n : ℕ) (o : Option ℕ) (a : Answer) → (n ≡ 4 → ⊥) → (a .number ≡ 4 → ⊥) →
-    orElse n o a .number ≡ 4 → ⊥
-else-not-4 n none a p q = q
-else-not-4 n (some i) a p q = p
-
-judged-not-4 : (m x : ℕ) (rs : List Rec) → judged m x rs .number ≡ 4 → ⊥
-unfolding judged
-judged-not-4 m x rs =
-    else-not-4 8 (badRecord 0 rs) _ (λ e. omega arith)
-    (else-not-4 9 (groupFault rs) _ (λ e. omega arith)
-    (else-not-4 10 (noBreaking m x (units rs)) _ (λ e. omega arith) (λ e. omega arith)))
-
-set-up-not-4 : (n : ℕ) (cs ms xs : List ℕ) → setUpAnswer n cs ms xs .number ≡ 4 → ⊥
-unfolding setUpAnswer
-set-up-not-4 n cs ms xs e =
-    else-not-4 11 (badSlot 0 cs ms xs (n / 2824)) (says 0 (n / 2824)) (λ f. omega arith) (λ f. omega arith)
-    (passed 4 ((misfit cs ms xs n, says 1 0) ∷ []) _ refl e .1)
-
 book-not-4 : (n : ℕ) (c : Call) (b : List BookSlot) → numberOf (bookStep n c b .0) ≡ 4 → ⊥
-unfolding bookSetUp bookEdit bookAnswer bookRead bookCallRows bookEditRows
+unfolding bookSetUp
 book-not-4 n (call-set-up cs ms xs) b e = set-up-not-4 n cs ms xs e
-book-not-4 n (call-edit c k place deleted inserted) b e =
-    judged-not-4 _ _ _
-    (passed 4 (bookCallRows n (c .0) (k .0) b ++ bookEditRows place deleted inserted (bookAt b (k .0))) _ refl e .1)
-book-not-4 n (call-read c k) b e =
-    let z : _≡_ {A = ℕ} 0 4 = passed 4 (bookCallRows n (c .0) (k .0) b) (says 0 0) refl e .1 in
-    omega arith
+book-not-4 n (call-on c k q) b e = on-book-not-4 q n (c .0) (k .0) b e
 
 -- it never comes up in the book
 pub never-4 : (n : ℕ) (cs : List Call) (b : List BookSlot) → All (λ r. numberOf r ≡ 4 → ⊥) (runBook n cs b .0)

@@ -1,73 +1,104 @@
--- What an accepted edit does to a slot of any words, and what its answer says of the new records. Assumes nothing.
+-- What an edit does to a slot of any words: that it keeps the slot's length, that a refused one changes nothing, what an
+-- accepted one leaves, and what its answer says of the new records. Assumes nothing.
 use mathlib.Core.Path.{_≡_, refl, sym, ap, _∙_}
-use Prim.Native.Nat.{ℕ, _+_, _-_, _≤_}
+use Prim.Native.Nat.{ℕ, _+_, _-_, _*_, _/_, _%_, _≤_}
 use native.Mathlib.Omega.{arith}
 use mathlib.Core.Bool.{true}
 use mathlib.Core.List.{List}
-use lib.Dec.{ltb}
+use mathlib.Core.Logic.{inl, inr}
+use lib.Dec.{ltb, eqb}
 use lib.ListN.{length, drop}
-use borrow.Author.Tests.{eq-eqb, ltb-false}
-use Rattle.rules.specs.Records.{Rec}
+use lib.Seq.{take-all}
+use borrow.Author.Tests.{eqb-true, eq-eqb, ne-eqb, ltb-false, not-false}
+use Rattle.rules.specs.Basics.{firstOf}
+use Rattle.rules.specs.Records.{Rec, records, recordWords}
 use Rattle.rules.specs.Groups.{units}
 use Rattle.rules.specs.Adjustment.{compose}
-use Rattle.rules.specs.Sheet.{slotWords, clinicOf, measureOf, indentOf, countOf, recordsOf}
-use Rattle.rules.specs.Refusals.{Answer, says, Outcome, judged, edited, slotRows, editSlot}
+use Rattle.rules.specs.Sheet.{slotWords, measureOf, indentOf, settingOf, countOf, recordsOf}
+use Rattle.rules.specs.Refusals.{Answer, says, EditAnswer, editSays, asEdit, Outcome, judged, edited, slotRows}
+use Rattle.rules.specs.Refusals.{editSlot}
+use Rattle.rules.proofs.Facts.{tested}
+use Rattle.rules.proofs.Words.{length-records, words-records}
+use Rattle.rules.proofs.Judged.{judged-0}
 use Rattle.sheet.specs.Meanings.{Spliced}
 use Rattle.sheet.proofs.Tables.{same-number, lacking, passed, under-table}
 use Rattle.sheet.proofs.Lengths.{or-right}
-use Rattle.sheet.proofs.Words.{slot-records}
-use Rattle.rules.proofs.Words.{length-records}
-use Rattle.sheet.proofs.Frame.{edited-few}
-use Rattle.rules.proofs.Judged.{judged-0}
+use Rattle.sheet.proofs.Words.{length-slot, slot-records}
+use Rattle.sheet.proofs.Slots.{splice-few}
 
 module _ (s : List ℕ) (place deleted : ℕ) (inserted : List ℕ) where
-  abbrev done : Outcome
+  abbrev done : Outcome EditAnswer
   done = editSlot s place deleted inserted
 
   abbrev new : List Rec
   new = edited s place deleted inserted
 
   abbrev composed : List ℕ
-  composed = slotWords (clinicOf s) (measureOf s) (indentOf s) new
+  composed = slotWords (settingOf s) new
 
   abbrev lineCount : ℕ
   lineCount = length (compose (measureOf s) (indentOf s) (units new))
 
-  -- where the rows 4 to 7 do not apply, the stretch is within the records and the answer is the new records' own
+  abbrev rows : Answer
+  rows = firstOf (slotRows s place deleted inserted) (judged (measureOf s) (indentOf s) new)
+
+  -- where the rows 4 to 7 do not apply, the stretch is within the records, the inserted words are whole records, few
+  -- enough, and the answer is the new records' own
   pub record Judged : Type 0 where
     pub fits : place + deleted ≤ length (recordsOf s)
-    pub answer : done .0 ≡ judged (measureOf s) (indentOf s) new
+    pub whole : recordWords (records inserted 0 (length inserted / 6)) ≡ inserted
+    pub few : length new ≤ 256
+    pub answer : rows ≡ judged (measureOf s) (indentOf s) new
+
+  whole-records : length inserted % 6 ≡ 0 → recordWords (records inserted 0 (length inserted / 6)) ≡ inserted
+  whole-records h =
+      words-records inserted (length inserted / 6) (omega arith)
+      ∙ take-all (6 * (length inserted / 6)) inserted (omega (arith, h))
 
   pub slot-judged : (n : ℕ) → lacking n (slotRows s place deleted inserted) ≡ true → done .0 .number ≡ n → Judged
   unfolding editSlot slotRows
   slot-judged n l z =
       let p = passed n (slotRows s place deleted inserted) _ l z .0 in
       let c : place + deleted ≤ countOf s = ltb-false _ _ (or-right (ltb (countOf s) place) _ (p .1 .0)) in
+      let k : countOf s ≡ length (recordsOf s) = sym (length-records (drop 8 s) 0 (countOf s)) in
       record {
-        fits = omega (arith, length-records (drop 8 s) 0 (countOf s));
+        fits = omega (arith, k);
+        whole = whole-records (eqb-true _ _ (not-false _ (p .1 .1 .0)));
+        few = splice-few (recordsOf s) place deleted inserted (rw k at (p .1 .0)) (rw k at (p .1 .1 .1 .0));
         answer = under-table (slotRows s place deleted inserted) _ p;
       }
 
   -- accepted
-  pub accepted-few : done .0 .number ≡ 0 → length new ≤ 256
-  unfolding editSlot
-  accepted-few z = edited-few s place deleted inserted z
-
-  pub slot-accepted : done .0 .number ≡ 0 → done ≡ (says 0 lineCount, composed)
+  pub slot-accepted : done .0 .number ≡ 0 → done ≡ (editSays 0 lineCount, composed)
   unfolding editSlot slotRows
   slot-accepted z =
       let j = slot-judged 0 refl z .answer in
       let a = judged-0 (measureOf s) (indentOf s) new (same-number (sym j) ∙ z) .1 in
-      rw (eq-eqb _ _ z) (ap (λ (o : Answer). (o, composed)) (j ∙ a))
+      rw (eq-eqb _ _ z) (ap (λ (o : Answer). (asEdit o, composed)) (j ∙ a))
 
-  pub slot-spliced : {o : Outcome} → place + deleted ≤ length (recordsOf s) →
-      _≡_ {A = Outcome} o (says 0 lineCount, composed) → Spliced s (o .1) (o .0) place deleted inserted
-  slot-spliced h e =
+  pub slot-spliced : {o : Outcome EditAnswer} → Judged → _≡_ {A = Outcome EditAnswer} o (editSays 0 lineCount, composed) →
+      Spliced s (o .1) (o .0) place deleted inserted
+  slot-spliced j e =
       rw e
-      (let r = slot-records (clinicOf s) (measureOf s) (indentOf s) new in
+      (let r = slot-records (settingOf s) new in
       record {
-        fits = h;
+        fits = j .fits;
+        new = records inserted 0 (length inserted / 6);
+        whole = j .whole;
         changed = r;
-        composed = ap (slotWords (clinicOf s) (measureOf s) (indentOf s)) (sym r);
+        composed = ap (slotWords (settingOf s)) (sym r);
         lines = ap (λ rs. length (compose (measureOf s) (indentOf s) (units rs))) (sym r);
       })
+
+  -- refused or not
+  pub slot-refused : (done .0 .number ≡ 0 → ⊥) → done .1 ≡ s
+  unfolding editSlot
+  slot-refused z = rw (ne-eqb _ _ z)
+
+  pub length-edit-slot : length s ≡ 2824 → length (done .1) ≡ 2824
+  unfolding editSlot slotRows
+  length-edit-slot h =
+      elim (tested (eqb (rows .number) 0)) [
+        | inl e ↦ rw e (length-slot (settingOf s) new (slot-judged 0 refl (eqb-true _ _ e) .few))
+        | inr e ↦ rw e h
+      ]

@@ -1,5 +1,5 @@
--- One slot: an edit of a sound slot's words does what the book does with its records, and an accepted edit of any
--- words leaves a whole slot. Assumes nothing.
+-- One slot: an edit of a sound slot's words does what the book does with its records, and the single edit leaves
+-- them. Assumes nothing.
 use mathlib.Core.Path.{_≡_, refl, sym, ap, _∙_}
 use Prim.Native.Nat.{ℕ, _+_, _-_, _/_, _%_, _≤_}
 use native.Mathlib.Omega.{arith}
@@ -9,11 +9,11 @@ use mathlib.Core.Logic.{inl, inr}
 use lib.Dec.{leb, ltb, eqb}
 use lib.ListN.{length, length-append, length-drop}
 use lib.Seq.{length-take-le}
-use borrow.Author.Tests.{ltb-false, le-leb, le-ltb, eq-eqb}
+use borrow.Author.Tests.{ltb-false, le-leb, le-ltb, eqb-true, eq-eqb}
 use Rattle.rules.specs.Basics.{firstOf}
 use Rattle.rules.specs.Records.{Rec, records, recordWords}
-use Rattle.rules.specs.Sheet.{slotWords, clinicOf, measureOf, indentOf, limitsOk}
-use Rattle.rules.specs.Refusals.{Answer, Outcome, judged, sound, splice, edited, slotRows, editSlot}
+use Rattle.rules.specs.Sheet.{slotWords, measureOf, indentOf, settingOf, limitsOk}
+use Rattle.rules.specs.Refusals.{Answer, EditAnswer, asEdit, Outcome, judged, sound, splice, edited, slotRows, editSlot}
 use Rattle.rules.proofs.Facts.{tested}
 use Rattle.rules.proofs.Limits.{and-right}
 use Rattle.sheet.specs.Book.{BookSlot, withRecords, bookEditRows, bookEdited}
@@ -22,8 +22,8 @@ use Rattle.rules.proofs.Words.{length-records}
 use Rattle.sheet.proofs.Tables.{passed}
 use Rattle.sheet.proofs.Lengths.{or-right}
 use Rattle.sheet.proofs.Words.{length-record-words, records-again}
-use Rattle.sheet.proofs.Words.{slot-clinic, slot-measure, slot-indent, slot-count, slot-records, slot-fresh}
-use Rattle.sheet.proofs.Encode.{Sound, none-right}
+use Rattle.sheet.proofs.Words.{slot-setting, slot-measure, slot-indent, slot-count, slot-records, slot-fresh}
+use Rattle.sheet.proofs.Encode.{Sound, sound-none}
 
 -- The splice --------------------------------------------------------------------------------------------------------
 
@@ -50,25 +50,30 @@ splice-few rs place deleted ws p q =
 abbrev pub slotAnswer : ℕ → ℕ → List ℕ → BookSlot → Answer
 slotAnswer place deleted inserted s =
     let t = bookEdited place deleted inserted s in
-    firstOf (bookEditRows place deleted inserted s) (judged (t .measure) (t .indent) (t .records))
+    firstOf (bookEditRows place deleted inserted s) (judged (t .setting .measure) (t .setting .indent) (t .records))
 
 -- the slot afterwards
 abbrev pub slotAfter : ℕ → ℕ → List ℕ → BookSlot → BookSlot
 slotAfter place deleted inserted s =
     cond (eqb (slotAnswer place deleted inserted s .number) 0) (bookEdited place deleted inserted s) s
 
--- an accepted edit of an assigned slot leaves a sound slot
-pub edited-sound : (place deleted : ℕ) (inserted : List ℕ) (s : BookSlot) → Sound s → (s .clinic ≡ 0 → ⊥) →
-    slotAnswer place deleted inserted s .number ≡ 0 → Sound (bookEdited place deleted inserted s)
+-- an edit of an assigned slot leaves a sound slot
+pub edited-sound : (place deleted : ℕ) (inserted : List ℕ) (s : BookSlot) → Sound s → (s .setting .clinic ≡ 0 → ⊥) →
+    Sound (slotAfter place deleted inserted s)
 unfolding bookEdited bookEditRows
-edited-sound place deleted inserted s h assigned e =
-    let p = passed 0 (bookEditRows place deleted inserted s) _ refl e in
-    record {
-      limits = h .limits;
-      unassigned = λ c. absurd (assigned c);
-      few = splice-few (s .records) place deleted inserted (p .0 .0) (p .0 .1 .1 .0);
-      right = p .1;
-    }
+edited-sound place deleted inserted s h assigned =
+    elim (tested (eqb (slotAnswer place deleted inserted s .number) 0)) [
+      | inl e ↦
+          let p = passed 0 (bookEditRows place deleted inserted s) _ refl (eqb-true _ _ e) in
+          rw e
+          (record {
+            limits = h .limits;
+            unassigned = λ c. absurd (assigned c);
+            few = splice-few (s .records) place deleted inserted (p .0 .0) (p .0 .1 .1 .0);
+            right = p .1;
+          })
+      | inr e ↦ rw e h
+    ]
 
 -- On the slot's words -----------------------------------------------------------------------------------------------
 
@@ -80,7 +85,7 @@ module _ (s : BookSlot) (h : Sound s) where
   sound-words : sound words ≡ true
   unfolding sound
   sound-words =
-      let l = and-right (leb (s .clinic) 65535) (limitsOk (s .measure) (s .indent)) (h .limits) in
+      let l = and-right (leb (s .setting .clinic) 65535) (limitsOk (s .setting .measure) (s .setting .indent)) (h .limits) in
       rw (slot-records, slot-measure, slot-indent, slot-count, l, le-leb _ _ (h .few), eq-eqb _ _ (h .right))
 
   module _ (place deleted : ℕ) (inserted : List ℕ) where
@@ -90,18 +95,20 @@ module _ (s : BookSlot) (h : Sound s) where
     unfolding slotRows bookEditRows bookEdited
     same-answer = rw (sound-words, slot-records, slot-measure, slot-indent, slot-count)
 
-    same-words : slotWords (clinicOf words) (measureOf words) (indentOf words) (edited words place deleted inserted)
+    same-words : slotWords (settingOf words) (edited words place deleted inserted)
         ≡ encodeSlot (bookEdited place deleted inserted s)
     unfolding bookEdited
-    same-words = rw (slot-records, slot-clinic, slot-measure, slot-indent)
+    same-words =
+        ap (λ t. slotWords t (edited words place deleted inserted)) (slot-setting (s .setting) (s .records))
+        ∙ rw slot-records
 
     pub slot-edits : editSlot words place deleted inserted
-        ≡ (slotAnswer place deleted inserted s, encodeSlot (slotAfter place deleted inserted s))
+        ≡ (asEdit (slotAnswer place deleted inserted s), encodeSlot (slotAfter place deleted inserted s))
     unfolding editSlot
     slot-edits =
         let a = slotAnswer place deleted inserted s in
         rw (same-answer, same-words)
-        (ap (λ w. (a, w)) (elim (tested (eqb (a .number) 0)) [ inl e ↦ rw e | inr e ↦ rw e ]))
+        (ap (λ w. (asEdit a, w)) (elim (tested (eqb (a .number) 0)) [ inl e ↦ rw e | inr e ↦ rw e ]))
 
 -- The single edit ---------------------------------------------------------------------------------------------------
 
@@ -112,11 +119,14 @@ module _ (s : BookSlot) (h : Sound s) where
   abbrev all : List ℕ
   all = recordWords (s .records)
 
+  abbrev answer : Answer
+  answer = judged (s .setting .measure) (s .setting .indent) (s .records)
+
   edited-all : bookEdited 0 0 all empty ≡ s
   unfolding bookEdited splice
   edited-all = rw (records-again, append-nil)
 
-  answer-all : slotAnswer 0 0 all empty ≡ judged (s .measure) (s .indent) (s .records)
+  answer-all : slotAnswer 0 0 all empty ≡ answer
   unfolding bookEditRows
   answer-all =
       let n = length-record-words (s .records) in
@@ -125,17 +135,10 @@ module _ (s : BookSlot) (h : Sound s) where
       rw (edited-all, eq-eqb _ _ six, le-ltb _ _ few)
 
   -- of a fresh slot, with all the records of a sound one
-  pub single-edit : editSlot (freshSlot s) 0 0 all ≡ (judged (s .measure) (s .indent) (s .records), encodeSlot s)
+  pub single-edit : editSlot (freshSlot s) 0 0 all ≡ (asEdit answer, encodeSlot s)
   single-edit =
-      let g : Sound empty
-      = record {
-        limits = h .limits;
-        unassigned = λ e. refl;
-        few = omega arith;
-        right = none-right (s .measure) (s .indent);
-      } in
-      ap (λ w. editSlot w 0 0 all) (sym (slot-fresh (s .clinic) (s .measure) (s .indent)))
-      ∙ slot-edits empty g 0 0 all
+      ap (λ w. editSlot w 0 0 all) (sym (slot-fresh (s .setting)))
+      ∙ slot-edits empty (sound-none (s .setting) (h .limits)) 0 0 all
       ∙ rw (answer-all, eq-eqb _ _ (h .right), edited-all)
 
 -- so a slot's words do not show its history
@@ -143,8 +146,7 @@ pub single-is : (s : BookSlot) → Sound s → encodeSlot s ≡ single s
 single-is s h = from (s .records) refl
   where
     from : (rs : List Rec) → s .records ≡ rs → encodeSlot s ≡ singleOf s rs
-    from [] e =
-        ap (slotWords (s .clinic) (s .measure) (s .indent)) e ∙ slot-fresh (s .clinic) (s .measure) (s .indent)
+    from [] e = ap (slotWords (s .setting)) e ∙ slot-fresh (s .setting)
     from (r ∷ rs) e =
-        sym (ap (λ (o : Outcome). o .1) (single-edit s h))
+        sym (ap (λ (o : Outcome EditAnswer). o .1) (single-edit s h))
         ∙ ap (λ qs. editSlot (freshSlot s) 0 0 (recordWords qs) .1) e

@@ -1,22 +1,25 @@
--- The book stays well-formed: after an accepted set-up, and after each call from then on. Assumes nothing.
-use mathlib.Core.Path.{_≡_, refl}
-use Prim.Native.Nat.{ℕ, _-_, _/_}
+-- The book stays well-formed: after an accepted set-up, and after each call from then on; and answer 4 does not come up
+-- in it. Assumes nothing.
+use mathlib.Core.Path.{_≡_, refl, ap, _∙_}
+use Prim.Native.Nat.{ℕ, _/_}
+use native.Mathlib.Omega.{arith}
 use mathlib.Core.Bool.{Bool, true, false, cond}
 use mathlib.Core.List.{List}
 use mathlib.Core.Logic.{inl, inr}
 use lib.Dec.{eqb}
 use lib.ListN.{length, set, length-set}
-use borrow.Author.Tests.{eqb-true, eqb-false}
-use Rattle.rules.specs.Refusals.{Answer, setUpAnswer}
+use lib.Seq.{set-getD}
+use borrow.Author.Tests.{eqb-true, ne-eqb}
+use Rattle.rules.specs.Refusals.{says, setUpAnswer}
 use Rattle.rules.proofs.Facts.{tested}
-use Rattle.sheet.specs.Book.{Call, call-set-up, call-edit, call-read}
-use Rattle.sheet.specs.Book.{BookSlot, bookAt, emptySlots, bookSetUp, bookCalled}
-use Rattle.sheet.specs.Book.{bookEdited, bookEdit, bookStep}
+use Rattle.sheet.specs.Book.{SlotCall, Call, call-set-up, call-on, Reply, numberOf, refusal}
+use Rattle.sheet.specs.Book.{BookSlot, bookAt, emptySlots, bookSetUp, bookCallRows, bookCalled}
+use Rattle.sheet.specs.Book.{onBookSlot, inBook, bookStep}
+use Rattle.sheet.proofs.Tables.{passed}
 use Rattle.sheet.proofs.Lists.{accepted, accepted-limits}
-use Rattle.sheet.proofs.Encode.{Sound, WellFormed, all-set}
-use Rattle.sheet.proofs.Encode.{length-empty, sound-empty}
-use Rattle.sheet.proofs.Slots.{slotAnswer, edited-sound}
-use Rattle.sheet.proofs.Steps.{here, assigned, two-tables}
+use Rattle.sheet.proofs.Encode.{Sound, WellFormed, all-set, length-empty, sound-empty}
+use Rattle.sheet.proofs.SlotCalls.{keeps}
+use Rattle.sheet.proofs.Steps.{here, assigned}
 
 -- an accepted set-up starts a well-formed book, whatever there was before
 pub new-book : (n : ℕ) (cs ms xs : List ℕ) → setUpAnswer n cs ms xs .number ≡ 0 →
@@ -32,41 +35,27 @@ new-book n cs ms xs z =
     } in
     rw (← f .slots) w
 
+-- Any call ----------------------------------------------------------------------------------------------------------
+
 module _ (n : ℕ) (b : List BookSlot) (g : WellFormed n b) where
-  -- an accepted edit passed both tables, and leaves a sound slot
-  module _ (caller k place deleted : ℕ) (inserted : List ℕ) where
-    abbrev one : Answer
-    one = bookCalled n caller k b
+  with-sound : (k : ℕ) (t : BookSlot) → Sound t → WellFormed n (set b k t)
+  with-sound k t h =
+      record {
+        sound = all-set (g .sound) k t h;
+        exact = rw length-set (g .exact);
+        some = rw length-set (g .some);
+        few = rw length-set (g .few);
+      }
 
-    abbrev two : Answer
-    two = slotAnswer place deleted inserted (bookAt b k)
-
-    abbrev new : BookSlot
-    new = bookEdited place deleted inserted (bookAt b k)
-
-    edit-sound : (t : Bool) → eqb (one .number) 0 ≡ t → cond t two one .number ≡ 0 → Sound new
-    edit-sound true e z =
-        let y = eqb-true _ _ e in
-        edited-sound place deleted inserted (bookAt b k) (here n b g caller k y) (assigned n b g caller k y) z
-    edit-sound false e z = absurd (eqb-false _ _ e z)
-
-    edit-stays : WellFormed n (bookEdit n caller k place deleted inserted b .1)
-    unfolding bookEdit
-    edit-stays =
-        rw (two-tables n b g caller k place deleted inserted)
-        (elim (tested (eqb (cond (eqb (one .number) 0) two one .number) 0)) [
-          | inl e ↦ rw e (with-sound new (edit-sound _ refl (eqb-true _ _ e)))
-          | inr e ↦ rw e g
-        ])
-      where
-        with-sound : (t : BookSlot) → Sound t → WellFormed n (set b k t)
-        with-sound t h =
-            record {
-              sound = all-set (g .sound) k t h;
-              exact = rw length-set (g .exact);
-              some = rw length-set (g .some);
-              few = rw length-set (g .few);
-            }
+  on-stays : (q : SlotCall) (caller k : ℕ) → WellFormed n (onBookSlot (refusal q) n caller k (inBook q) b .1)
+  unfolding onBookSlot
+  on-stays q caller k =
+      elim (tested (eqb (bookCalled n caller k b .number) 0)) [
+        | inl e ↦
+            let z = eqb-true _ _ e in
+            rw e (with-sound k _ (keeps q .sound (bookAt b k) (here n b g caller k z) (assigned n b g caller k z)))
+        | inr e ↦ rw e g
+      ]
 
   pub stays : (c : Call) → WellFormed n (bookStep n c b .1)
   unfolding bookSetUp
@@ -75,5 +64,36 @@ module _ (n : ℕ) (b : List BookSlot) (g : WellFormed n b) where
         | inl e ↦ rw e (new-book n cs ms xs (eqb-true _ _ e))
         | inr e ↦ rw e g
       ]
-  stays (call-edit c k place deleted inserted) = edit-stays (c .0) (k .0) place deleted inserted
-  stays (call-read c k) = g
+  stays (call-on c k q) = on-stays q (c .0) (k .0)
+
+-- Any book ----------------------------------------------------------------------------------------------------------
+
+module _ (q : SlotCall) (n caller k : ℕ) (b : List BookSlot) where
+  abbrev out : Reply × List BookSlot
+  out = onBookSlot (refusal q) n caller k (inBook q) b
+
+  pub on-book-not-4 : numberOf (out .0) ≡ 4 → ⊥
+  unfolding onBookSlot bookCallRows
+  on-book-not-4 =
+      elim (tested (eqb (bookCalled n caller k b .number) 0)) [
+        | inl e ↦ rw e (keeps q .never-4 (bookAt b k))
+        | inr e ↦ rw (e, keeps q .number (bookCalled n caller k b)) (λ f. not-4 f)
+      ]
+    where
+      not-4 : bookCalled n caller k b .number ≡ 4 → ⊥
+      not-4 f = let z : _≡_ {A = ℕ} 0 4 = passed 4 (bookCallRows n caller k b) (says 0 0) refl f .1 in omega arith
+
+  -- "A refused call changes nothing in the book."
+  on-book-unchanged : (numberOf (out .0) ≡ 0 → ⊥) → out .1 ≡ b
+  unfolding onBookSlot
+  on-book-unchanged =
+      elim (tested (eqb (bookCalled n caller k b .number) 0)) [
+        | inl e ↦ rw e (λ z. ap (set b k) (keeps q .book-unchanged (bookAt b k) z) ∙ set-getD b k _)
+        | inr e ↦ rw e (λ z. refl)
+      ]
+
+pub book-refused : (n : ℕ) (c : Call) (b : List BookSlot) → (numberOf (bookStep n c b .0) ≡ 0 → ⊥) →
+    bookStep n c b .1 ≡ b
+unfolding bookSetUp
+book-refused n (call-set-up cs ms xs) b z = rw (ne-eqb _ _ z)
+book-refused n (call-on c k q) b z = on-book-unchanged q n (c .0) (k .0) b z

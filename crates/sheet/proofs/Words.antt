@@ -11,8 +11,8 @@ use Rattle.rules.specs.Records.{Rec, recAt, records, recordWords}
 use Rattle.rules.specs.Groups.{units}
 use Rattle.rules.specs.Breaks.{runs, breaking}
 use Rattle.rules.specs.Adjustment.{Line, linesOf, compose}
-use Rattle.rules.specs.Sheet.{placeWords, lineWords, head, slotWords, fresh}
-use Rattle.rules.specs.Sheet.{clinicOf, measureOf, indentOf, countOf, lineCountOf, recordsOf}
+use Rattle.rules.specs.Sheet.{Setting, placeWords, lineWords, head, slotWords, fresh}
+use Rattle.rules.specs.Sheet.{measureOf, indentOf, settingOf, countOf, lineCountOf, recordsOf}
 use Rattle.rules.proofs.Facts.{cons-path}
 use Rattle.rules.proofs.Zeros.{length-zeros, zeros-append}
 use Rattle.rules.proofs.Lengths.{length-lineWords, composed-places, composed-few}
@@ -52,12 +52,12 @@ records-again rs =
 length-padded : (n : ℕ) (ws : List ℕ) → length ws ≤ n → length (padded n ws) ≡ n
 length-padded n ws h = length-append ws _ ∙ omega (arith, length-zeros (n - length ws))
 
-module _ (clinic m x : ℕ) (rs : List Rec) where
+module _ (t : Setting) (rs : List Rec) where
   abbrev lines : List Line
-  lines = compose m x (units rs)
+  lines = compose (t .measure) (t .indent) (units rs)
 
   abbrev first : List ℕ
-  first = head clinic m x (length rs) (length lines)
+  first = head t (length rs) (length lines)
 
   abbrev second : List ℕ
   second = padded 1536 (recordWords rs)
@@ -69,31 +69,29 @@ module _ (clinic m x : ℕ) (rs : List Rec) where
   fourth = padded 768 (lineWords 0 lines)
 
   -- the head and the records are read back
-  pub slot-clinic : clinicOf (slotWords clinic m x rs) ≡ clinic
+  pub slot-setting : settingOf (slotWords t rs) ≡ t
   unfolding slotWords
-  slot-clinic = refl
+  slot-setting = refl
 
-  pub slot-measure : measureOf (slotWords clinic m x rs) ≡ m
-  unfolding slotWords
-  slot-measure = refl
+  pub slot-measure : measureOf (slotWords t rs) ≡ t .measure
+  slot-measure = ap (λ (p : Setting). p .measure) slot-setting
 
-  pub slot-indent : indentOf (slotWords clinic m x rs) ≡ x
-  unfolding slotWords
-  slot-indent = refl
+  pub slot-indent : indentOf (slotWords t rs) ≡ t .indent
+  slot-indent = ap (λ (p : Setting). p .indent) slot-setting
 
-  pub slot-count : countOf (slotWords clinic m x rs) ≡ length rs
+  pub slot-count : countOf (slotWords t rs) ≡ length rs
   unfolding slotWords
   slot-count = refl
 
-  pub slot-line-count : lineCountOf (slotWords clinic m x rs) ≡ length lines
+  pub slot-line-count : lineCountOf (slotWords t rs) ≡ length lines
   unfolding slotWords
   slot-line-count = refl
 
-  pub slot-records : recordsOf (slotWords clinic m x rs) ≡ rs
+  pub slot-records : recordsOf (slotWords t rs) ≡ rs
   unfolding slotWords
   slot-records =
       let rest : List ℕ = zeros (1536 - length (recordWords rs)) in
-      let parts : slotWords clinic m x rs ≡ first ++ (recordWords rs ++ (rest ++ (third ++ fourth)))
+      let parts : slotWords t rs ≡ first ++ (recordWords rs ++ (rest ++ (third ++ fourth)))
       = append-assoc (first ++ second) third fourth
       ∙ append-assoc first second (third ++ fourth)
       ∙ ap (λ l. first ++ l) (append-assoc (recordWords rs) rest (third ++ fourth)) in
@@ -104,11 +102,11 @@ module _ (clinic m x : ℕ) (rs : List Rec) where
     length-second = length-padded 1536 (recordWords rs) (omega (arith, length-record-words rs))
 
     length-third : length third ≡ 512
-    length-third = length-padded 512 (placeWords 0 lines) (omega (arith, composed-places m x rs))
+    length-third = length-padded 512 (placeWords 0 lines) (omega (arith, composed-places (t .measure) (t .indent) rs))
 
     length-fourth : length fourth ≡ 768
     length-fourth =
-        length-padded 768 (lineWords 0 lines) (omega (arith, length-lineWords 0 lines, composed-few m x rs))
+        length-padded 768 (lineWords 0 lines) (omega (arith, length-lineWords 0 lines, composed-few (t .measure) (t .indent) rs))
 
     length-three : length (first ++ second ++ third) ≡ 2056
     length-three =
@@ -116,12 +114,12 @@ module _ (clinic m x : ℕ) (rs : List Rec) where
         ∙ omega (arith, length-append first second, length-second, length-third)
 
     -- a slot has 2,824 words
-    pub length-slot : length (slotWords clinic m x rs) ≡ 2824
+    pub length-slot : length (slotWords t rs) ≡ 2824
     unfolding slotWords
     length-slot = length-append (first ++ second ++ third) fourth ∙ omega (arith, length-three, length-fourth)
 
     -- and the used ones of its lines stand from word 2056 on
-    pub slot-lines : take (3 * length lines) (drop 2056 (slotWords clinic m x rs)) ≡ lineWords 0 lines
+    pub slot-lines : take (3 * length lines) (drop 2056 (slotWords t rs)) ≡ lineWords 0 lines
     unfolding slotWords
     slot-lines =
         ap (take (3 * length lines)) (drop-at (first ++ second ++ third) fourth 2056 length-three)
@@ -132,11 +130,11 @@ unfolding zeros
 five = refl
 
 -- a slot without records is fresh
-pub slot-fresh : (clinic m x : ℕ) → slotWords clinic m x [] ≡ fresh clinic m x
+pub slot-fresh : (t : Setting) → slotWords t [] ≡ fresh t
 unfolding slotWords compose units cut runs breaking linesOf recordWords placeWords lineWords
-slot-fresh clinic m x =
+slot-fresh t =
     let z : zeros 1536 ++ zeros 512 ++ zeros 768 ≡ zeros 2816
     = ap (λ l. l ++ zeros 768) (zeros-append 1536 512) ∙ zeros-append 2048 768 in
-    ap (λ l. clinic ∷ m ∷ x ∷ 0 ∷ 0 ∷ 0 ∷ 0 ∷ 0 ∷ l) z
-    ∙ ap (λ l. clinic ∷ m ∷ x ∷ (l ++ zeros 2816)) (sym five)
-    ∙ ap (λ l. clinic ∷ m ∷ x ∷ l) (zeros-append 5 2816)
+    ap (λ l. t .clinic ∷ t .measure ∷ t .indent ∷ 0 ∷ 0 ∷ 0 ∷ 0 ∷ 0 ∷ l) z
+    ∙ ap (λ l. t .clinic ∷ t .measure ∷ t .indent ∷ (l ++ zeros 2816)) (sym five)
+    ∙ ap (λ l. t .clinic ∷ t .measure ∷ t .indent ∷ l) (zeros-append 5 2816)

@@ -1,73 +1,91 @@
 -- Document 01, "The book of demand 3": the book, the calls in it and on the sheet, and sequences of calls.
 --
---   book         for each slot a clinic, a measure, an indent and its records in order
---   call         set-up, edit or read, with its arguments; read and its companion together are one read
+--   book         for each slot its setting and its records in order
+--   call         set-up, or a call on a slot by a caller, with its arguments; read and its companion together are one
+--   slot call    what is done on the slot: edit or read
 --   reply        what a call gives its caller: a number and a place, or a read's number and words
 --   step         a call on a sheet, by the definitions that the calls' contracts cite
 --   book step    a call in the book, which is told the call and the sheet's length and nothing else
 --   encode       the words of a sheet whose slots hold what the book's slots hold
 --   single       what a fresh slot holds after the single edit of the book's records
 --
--- The book's tables have the rows of document 01's in its order. Answer 4 has no row: it cannot come up.
--- Assumes nothing.
-use Prim.Native.Nat.{ℕ, zero, suc, _+_, _-_, _/_, _%_}
+-- A call on a slot is one clause of `refusal`, `inSlot` and `inBook`; the rows 1 to 3 stand once, in `onSlot` of crate
+-- `rules` and in `onBookSlot`. The book's tables have the rows of document 01's in its order. Answer 4 has no row: it
+-- cannot come up. Assumes nothing.
+use Prim.Native.Nat.{ℕ, zero, suc, _+_, _-_, _*_, _/_, _%_}
 use mathlib.Core.Bool.{Bool, cond, not, _||_}
 use mathlib.Core.List.{List, [], _∷_, _++_}
 use lib.Dec.{leb, ltb, eqb}
-use lib.ListN.{length, getD, set}
+use lib.ListN.{length, getD, set, take, drop}
 use Rattle.rules.specs.Basics.{firstOf}
 use Rattle.rules.specs.Records.{Rec, records, recordWords}
 use Rattle.rules.specs.Groups.{units}
 use Rattle.rules.specs.Adjustment.{compose}
-use Rattle.rules.specs.Sheet.{lineWords, slotWords, fresh, lengthOk}
-use Rattle.rules.specs.Refusals.{Answer, says, judged, splice, editSlot, edit}
-use Rattle.rules.specs.Refusals.{readNumber, readWords, setUpAnswer, setUp}
+use Rattle.rules.specs.Sheet.{Setting, setting, lineWords, slotWords, fresh, lineCountOf, lengthOk}
+use Rattle.rules.specs.Refusals.{Answer, says, EditAnswer, asEdit, Outcome, judged, splice, editSlot, onSlot}
+use Rattle.rules.specs.Refusals.{readRows, settingAt, setUpAnswer, setUp}
 use Rattle.sheet.specs.declared.Clinic.{Clinic}
 use Rattle.sheet.specs.declared.SlotNumber.{SlotNumber}
 
 pub record BookSlot : Type 0 where
-  pub clinic : ℕ
-  pub measure : ℕ
-  pub indent : ℕ
+  pub setting : Setting
   pub records : List Rec
 
 -- Calls -------------------------------------------------------------------------------------------------------------
 
+-- a call on a slot, with what it is told beside caller and slot
+pub data SlotCall : Type 0 where
+  edits : (place deleted : ℕ) (inserted : List ℕ) → SlotCall
+  reads : SlotCall
+
 pub data Call : Type 0 where
   call-set-up : (clinics measures indents : List ℕ) → Call
-  call-edit : (caller : Clinic) (slot : SlotNumber) (place deleted : ℕ) (inserted : List ℕ) → Call
-  call-read : (caller : Clinic) (slot : SlotNumber) → Call
+  call-on : (caller : Clinic) (slot : SlotNumber) → SlotCall → Call
 
 pub data Reply : Type 0 where
-  answered : Answer → Reply
-  handed : ℕ → List ℕ → Reply
+  set-up-reply : Answer → Reply
+  edit-reply : EditAnswer → Reply
+  read-reply : (number : ℕ) (words : List ℕ) → Reply
 
 abbrev pub numberOf : Reply → ℕ
-numberOf (answered a) = a .number
-numberOf (handed n ws) = n
+numberOf (set-up-reply a) = a .number
+numberOf (edit-reply a) = a .number
+numberOf (read-reply n ws) = n
 
-abbrev pub step : Call → List ℕ → Reply × List ℕ
-step (call-set-up cs ms xs) ws = let o = setUp ws cs ms xs in (answered (o .0), o .1)
-step (call-edit c k place deleted inserted) ws =
-    let o = edit ws (c .0) (k .0) place deleted inserted in
-    (answered (o .0), o .1)
-step (call-read c k) ws = (handed (readNumber ws (c .0) (k .0)) (readWords ws (c .0) (k .0)), ws)
+-- a call on a slot that one of the rows 1 to 3 refuses: "A refused read hands back an empty part."
+abbrev pub refusal : SlotCall → Answer → Reply
+refusal (edits place deleted inserted) a = edit-reply (asEdit a)
+refusal reads a = read-reply (a .number) []
+
+-- a read of slot s by its own clinic: the slot's used line words
+abbrev pub readSlot : List ℕ → Reply
+readSlot s =
+    let n = firstOf (readRows s) (says 0 0) .number in
+    read-reply n (cond (eqb n 0) (take (3 * lineCountOf s) (drop 2056 s)) [])
+
+-- a call on slot s by its own clinic
+abbrev pub inSlot : SlotCall → List ℕ → Outcome Reply
+inSlot (edits place deleted inserted) s = let o = editSlot s place deleted inserted in (edit-reply (o .0), o .1)
+inSlot reads s = (readSlot s, s)
+
+abbrev pub step : Call → List ℕ → Outcome Reply
+step (call-set-up cs ms xs) ws = let o = setUp ws cs ms xs in (set-up-reply (o .0), o .1)
+step (call-on c k q) ws = onSlot (refusal q) ws (c .0) (k .0) (inSlot q)
 
 -- The book ----------------------------------------------------------------------------------------------------------
 
 abbrev pub withRecords : BookSlot → List Rec → BookSlot
-withRecords s rs = record { clinic = s .clinic; measure = s .measure; indent = s .indent; records = rs }
+withRecords s rs = record { setting = s .setting; records = rs }
 
 -- slot k of a book; past its end, where answer 2 is due, a slot of nobody's
 abbrev pub bookAt : List BookSlot → ℕ → BookSlot
-bookAt b k = getD b k (record { clinic = 0; measure = 0; indent = 0; records = [] })
+bookAt b k = getD b k (record { setting = setting 0 0 0; records = [] })
 
 -- "gives each slot its clinic, measure and indent from the three lists, and no records": n slots from slot k on
 unfoldable pub emptySlots : ℕ → List ℕ → List ℕ → List ℕ → ℕ → List BookSlot
 emptySlots k cs ms xs zero = []
 emptySlots k cs ms xs (suc n) =
-    record { clinic = getD cs k 0; measure = getD ms k 0; indent = getD xs k 0; records = [] }
-    ∷ emptySlots (suc k) cs ms xs n
+    record { setting = settingAt cs ms xs k; records = [] } ∷ emptySlots (suc k) cs ms xs n
 
 -- "Set-up: it answers as the table says." That table speaks of the sheet's length and the lists alone
 unfoldable pub bookSetUp : ℕ → List ℕ → List ℕ → List ℕ → List BookSlot → Answer × List BookSlot
@@ -80,12 +98,20 @@ unfoldable pub bookCallRows : ℕ → ℕ → ℕ → List BookSlot → List (Bo
 bookCallRows n caller k b =
     (not (lengthOk n), says 1 0)
     ∷ (leb (n / 2824) k, says 2 0)
-    ∷ (eqb caller 0 || not (eqb caller (bookAt b k .clinic)), says 3 0)
+    ∷ (eqb caller 0 || not (eqb caller (bookAt b k .setting .clinic)), says 3 0)
     ∷ []
 
 -- their answer: 0 where none applies
 abbrev pub bookCalled : ℕ → ℕ → ℕ → List BookSlot → Answer
 bookCalled n caller k b = firstOf (bookCallRows n caller k b) (says 0 0)
+
+-- a call on slot k of the book: where none of the rows 1 to 3 applies, g gives its reply and the slot afterwards
+unfoldable pub onBookSlot :
+    (Answer → Reply) → ℕ → ℕ → ℕ → (BookSlot → Reply × BookSlot) → List BookSlot → Reply × List BookSlot
+onBookSlot refused n caller k g b =
+    let a = bookCalled n caller k b in
+    let o = g (bookAt b k) in
+    cond (eqb (a .number) 0) (o .0, set b k (o .1)) (refused a, b)
 
 -- the rows 5 to 7 of an edit
 unfoldable pub bookEditRows : ℕ → ℕ → List ℕ → BookSlot → List (Bool × Answer)
@@ -101,53 +127,44 @@ unfoldable pub bookEdited : ℕ → ℕ → List ℕ → BookSlot → BookSlot
 bookEdited place deleted inserted s =
     withRecords s (splice (s .records) place deleted (records inserted 0 (length inserted / 6)))
 
--- "the table's number and place, or 0 and the line count that the rules give"
-unfoldable pub bookAnswer : ℕ → ℕ → ℕ → ℕ → ℕ → List ℕ → List BookSlot → Answer
-bookAnswer n caller k place deleted inserted b =
-    let s = bookAt b k in
+-- "the table's number and place, or 0 and the line count that the rules give", and the slot afterwards
+unfoldable pub bookEdit : ℕ → ℕ → List ℕ → BookSlot → EditAnswer × BookSlot
+bookEdit place deleted inserted s =
     let t = bookEdited place deleted inserted s in
-    firstOf (bookCallRows n caller k b ++ bookEditRows place deleted inserted s)
-    (judged (t .measure) (t .indent) (t .records))
-
-unfoldable pub bookEdit : ℕ → ℕ → ℕ → ℕ → ℕ → List ℕ → List BookSlot → Answer × List BookSlot
-bookEdit n caller k place deleted inserted b =
-    let a = bookAnswer n caller k place deleted inserted b in
-    (a, cond (eqb (a .number) 0) (set b k (bookEdited place deleted inserted (bookAt b k))) b)
+    let m = t .setting .measure in
+    let a = firstOf (bookEditRows place deleted inserted s) (judged m (t .setting .indent) (t .records)) in
+    (asEdit a, cond (eqb (a .number) 0) t s)
 
 -- the line words that the rules give a slot's records
 abbrev pub bookLines : BookSlot → List ℕ
-bookLines s = lineWords 0 (compose (s .measure) (s .indent) (units (s .records)))
+bookLines s = lineWords 0 (compose (s .setting .measure) (s .setting .indent) (units (s .records)))
 
--- "At 0 the line words .. come with it, otherwise none."
-unfoldable pub bookRead : ℕ → ℕ → ℕ → List BookSlot → Reply
-bookRead n caller k b =
-    let a = bookCalled n caller k b in
-    handed (a .number) (cond (eqb (a .number) 0) (bookLines (bookAt b k)) [])
+-- a call on a slot of the book by its own clinic. Read: "At 0 the line words .. come with it"
+abbrev pub inBook : SlotCall → BookSlot → Reply × BookSlot
+inBook (edits place deleted inserted) s = let o = bookEdit place deleted inserted s in (edit-reply (o .0), o .1)
+inBook reads s = (read-reply 0 (bookLines s), s)
 
 abbrev pub bookStep : ℕ → Call → List BookSlot → Reply × List BookSlot
-bookStep n (call-set-up cs ms xs) b = let o = bookSetUp n cs ms xs b in (answered (o .0), o .1)
-bookStep n (call-edit c k place deleted inserted) b =
-    let o = bookEdit n (c .0) (k .0) place deleted inserted b in
-    (answered (o .0), o .1)
-bookStep n (call-read c k) b = (bookRead n (c .0) (k .0) b, b)
+bookStep n (call-set-up cs ms xs) b = let o = bookSetUp n cs ms xs b in (set-up-reply (o .0), o .1)
+bookStep n (call-on c k q) b = onBookSlot (refusal q) n (c .0) (k .0) (inBook q) b
 
 -- The book's words --------------------------------------------------------------------------------------------------
 
 abbrev pub encodeSlot : BookSlot → List ℕ
-encodeSlot s = slotWords (s .clinic) (s .measure) (s .indent) (s .records)
+encodeSlot s = slotWords (s .setting) (s .records)
 
 abbrev pub encode : List BookSlot → List ℕ
 encode [] = []
 encode (s ∷ b) = encodeSlot s ++ encode b
 
 -- what comes with a book, with the book's words
-abbrev pub inWords : {A : Type 0} → A × List BookSlot → A × List ℕ
+abbrev pub inWords : {A : Type 0} → A × List BookSlot → Outcome A
 inWords o = (o .0, encode (o .1))
 
 -- "The single edit comes from the slot's clinic, at place 0, deletes nothing and inserts the words of all the book's
 -- records for that slot. Where there are none, the slot stays fresh."
 abbrev pub freshSlot : BookSlot → List ℕ
-freshSlot s = fresh (s .clinic) (s .measure) (s .indent)
+freshSlot s = fresh (s .setting)
 
 abbrev pub singleOf : BookSlot → List Rec → List ℕ
 singleOf s [] = freshSlot s

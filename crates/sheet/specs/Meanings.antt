@@ -3,6 +3,7 @@
 --   outside      a word that is not of the named slot
 --   beyond       answer 1 or 2 is due: the sheet's length tells
 --   alike        two sheets that a caller of a slot cannot tell apart
+--   left alike   what a call makes of two such sheets is the same where it may look and write
 --   no earlier   an edit to which no answer before 10 applies
 --   spliced      a slot after an accepted edit
 --
@@ -16,12 +17,12 @@ use mathlib.Core.Option.{none}
 use lib.Dec.{leb}
 use lib.ListN.{length}
 use Rattle.rules.specs.Basics.{firstOf}
-use Rattle.rules.specs.Records.{badRecord, records}
+use Rattle.rules.specs.Records.{Rec, badRecord, recordWords}
 use Rattle.rules.specs.Groups.{groupFault, units}
 use Rattle.rules.specs.Adjustment.{compose}
-use Rattle.rules.specs.Sheet.{slotWords, clinicOf, measureOf, indentOf, recordsOf, lengthOk, slotAt}
-use Rattle.rules.specs.Refusals.{Answer, says, splice, edited, slotRows, called}
-use Rattle.sheet.specs.Book.{Call, call-set-up, call-edit, call-read}
+use Rattle.rules.specs.Sheet.{slotWords, clinicOf, measureOf, indentOf, settingOf, recordsOf, lengthOk, slotAt}
+use Rattle.rules.specs.Refusals.{EditAnswer, says, splice, edited, slotRows, called}
+use Rattle.sheet.specs.Book.{Call, call-set-up, call-on, Reply, numberOf}
 
 -- word i is not one of slot k's 2,824
 abbrev pub Outside : ℕ → ℕ → Type 0
@@ -42,8 +43,15 @@ pub record Alike (caller k : ℕ) (ws vs : List ℕ) : Type 0 where
 -- for a call: a set-up looks at the sheet's length alone
 abbrev pub AlikeFor : Call → List ℕ → List ℕ → Type 0
 AlikeFor (call-set-up cs ms xs) ws vs = length ws ≡ length vs
-AlikeFor (call-edit c k place deleted inserted) ws vs = Alike (c .0) (k .0) ws vs
-AlikeFor (call-read c k) ws vs = Alike (c .0) (k .0) ws vs
+AlikeFor (call-on c k q) ws vs = Alike (c .0) (k .0) ws vs
+
+-- what a call with reply a leaves of a sheet ws and of another that was alike for it: an accepted set-up leaves the two
+-- sheets the same, a call on a slot the slot, where the caller is its clinic
+abbrev pub LeftAlike : Call → Reply → List ℕ → List ℕ → List ℕ → Type 0
+LeftAlike (call-set-up cs ms xs) a ws left right = numberOf a ≡ 0 → left ≡ right
+LeftAlike (call-on c k q) a ws left right =
+    beyond (length ws) (k .0) ≡ false → (c .0 ≡ 0 → ⊥) → c .0 ≡ clinicOf (slotAt ws (k .0)) →
+    slotAt left (k .0) ≡ slotAt right (k .0)
 
 -- no answer before 10 is due on an edit: the rows 1 to 3 and 4 to 7 do not apply, and no record that would result
 -- breaks its own rules or its group's
@@ -54,9 +62,12 @@ pub record NoEarlier (ws : List ℕ) (caller k place deleted : ℕ) (inserted : 
   pub groups : groupFault (edited (slotAt ws k) place deleted inserted) ≡ none
 
 -- a slot s becomes t by an accepted edit with answer a: its records are the old ones with exactly the named stretch
--- replaced, and all its words follow from them, clinic, measure and indent as they were
-pub record Spliced (s t : List ℕ) (a : Answer) (place deleted : ℕ) (inserted : List ℕ) : Type 0 where
+-- replaced by the inserted ones, whose words are all that was inserted; and all its words follow from them, clinic,
+-- measure and indent as they were
+pub record Spliced (s t : List ℕ) (a : EditAnswer) (place deleted : ℕ) (inserted : List ℕ) : Type 0 where
   pub fits : place + deleted ≤ length (recordsOf s)
-  pub changed : recordsOf t ≡ splice (recordsOf s) place deleted (records inserted 0 (length inserted / 6))
-  pub composed : t ≡ slotWords (clinicOf s) (measureOf s) (indentOf s) (recordsOf t)
+  pub new : List Rec
+  pub whole : recordWords new ≡ inserted
+  pub changed : recordsOf t ≡ splice (recordsOf s) place deleted new
+  pub composed : t ≡ slotWords (settingOf s) (recordsOf t)
   pub lines : a .place ≡ length (compose (measureOf s) (indentOf s) (units (recordsOf t)))

@@ -5,13 +5,14 @@ pub use crate::setting::set_up;
 pub use rules::RubyPlace;
 pub use rules::ruby_place;
 pub use slot::Answer;
+pub use slot::EditAnswer;
 use slot::edit_slot;
 ghost use mathlib.Core.Path.{_≡_};
 ghost use mathlib.Core.Bool.{cond};
 ghost use Prim.Native.Nat.{_+_, _*_, _/_};
 ghost use lib.ListN.{length};
 ghost use Rattle.rules.specs.Sheet.{lengthOk};
-ghost use Rattle.rules.specs.Refusals.{says, readNumber, readStart, readLength, readPart, readWords};
+ghost use Rattle.rules.specs.Refusals.{says, editSays, readNumber, readStart, readLength, readPart, readWords};
 ghost use Rattle.rules.specs.Refusals.{called as calledOf, edit as editOf};
 
 // Two kinds of number: edit's and read's two cannot be exchanged.
@@ -71,13 +72,16 @@ pub fn edit(
     place: u32,
     deleted: u32,
     inserted: &[u32],
-) -> Answer
-    ensures { λ r. ⌜ (says (r .number) (r .place), now (sheet .exit))
+) -> EditAnswer
+    ensures { λ r. ⌜ (editSays (r .number) (r .place), now (sheet .exit))
         ≡ editOf (now (sheet .entry)) (caller .0) (slot .0) place deleted (now (inserted .entry)) ⌝ }
 {
     let refusal = called(sheet, caller, slot);
     if refusal.number != 0 {
-        return refusal;
+        return EditAnswer {
+            number: refusal.number,
+            place: refusal.place,
+        };
     }
     let start = 2824 * slot.0 as usize;
     let end = start + 2824;
@@ -86,7 +90,8 @@ pub fn edit(
 
 // The number of a read: 0, or why it is refused.
 pub fn read_number(sheet: &[u32], caller: Clinic, slot: SlotNumber) -> u32
-    ensures { λ r. ⌜ r ≡ readNumber (now (sheet .entry)) (caller .0) (slot .0) ⌝ }
+    ensures number { λ r. ⌜ r ≡ readNumber (now (sheet .entry)) (caller .0) (slot .0) ⌝ }
+    ensures kept { λ _. ⌜ now (sheet .exit) ≡ now (sheet .entry) ⌝ }
 {
     let refusal = called(sheet, caller, slot);
     if refusal.number != 0 {
@@ -105,7 +110,8 @@ pub struct Part {
 
 // Where a slot's used line words stand. Empty where the read is refused.
 pub fn read_part(sheet: &[u32], caller: Clinic, slot: SlotNumber) -> Part
-    ensures { λ r. ⌜ (r .start, r .end) ≡ readPart (now (sheet .entry)) (caller .0) (slot .0) ⌝ }
+    ensures part { λ r. ⌜ (r .start, r .end) ≡ readPart (now (sheet .entry)) (caller .0) (slot .0) ⌝ }
+    ensures kept { λ _. ⌜ now (sheet .exit) ≡ now (sheet .entry) ⌝ }
 {
     let refusal = called(sheet, caller, slot);
     if refusal.number == 0 {
@@ -128,6 +134,7 @@ pub fn read(sheet: &[u32], caller: Clinic, slot: SlotNumber) -> &[u32]
     ensures count { λ r. ⌜ length (now r) ≡ readLength (now (sheet .entry)) (caller .0) (slot .0) ⌝ }
     ensures place { λ r. ⌜ (r .ptr .0 ≡ sheet .entry .ptr .0)
         × (r .ptr .1 ≡ sheet .entry .ptr .1 + 4 * readStart (now (sheet .entry)) (caller .0) (slot .0)) ⌝ }
+    ensures kept { λ _. ⌜ now (sheet .exit) ≡ now (sheet .entry) ⌝ }
 {
     let part = read_part(sheet, caller, slot);
     let start = part.start;

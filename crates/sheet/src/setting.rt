@@ -6,7 +6,7 @@ ghost use mathlib.Core.Path.{_≡_};
 ghost use Prim.Native.Nat.{_*_, _≤_};
 ghost use lib.ListN.{length};
 ghost use Rattle.rules.specs.Basics.{zeros};
-ghost use Rattle.rules.specs.Sheet.{fresh};
+ghost use Rattle.rules.specs.Sheet.{setting, fresh};
 ghost use Rattle.rules.specs.Refusals.{says, setUpAnswer, setUp};
 ghost use Rattle.sheet.specs.Lists.{Matched, limitsAnswer, allFresh};
 
@@ -64,7 +64,7 @@ fn clear(words: &mut [u32])
 fn write_fresh(words: &mut [u32], clinic: u32, measure: u32, indent: u32)
     requires { ⌜ length (now words) ≡ 2824 ⌝ }
     requires { ⌜ now words ≡ zeros 2824 ⌝ }
-    ensures { λ _. ⌜ now (words .exit) ≡ fresh clinic measure indent ⌝ }
+    ensures { λ _. ⌜ now (words .exit) ≡ fresh (setting clinic measure indent) ⌝ }
 {
     words[0] = clinic;
     words[1] = measure;

@@ -13,8 +13,8 @@ use Rattle.rules.specs.Basics.{zeros, padded}
 use Rattle.rules.specs.Records.{Rec, recordWords}
 use Rattle.rules.specs.Groups.{units}
 use Rattle.rules.specs.Adjustment.{compose}
-use Rattle.rules.specs.Sheet.{head, slotWords, placeWords, lineWords, clinicOf, measureOf, indentOf}
-use Rattle.rules.specs.Refusals.{Outcome, says, judged}
+use Rattle.rules.specs.Sheet.{Setting, head, slotWords, placeWords, lineWords, measureOf, indentOf, settingOf}
+use Rattle.rules.specs.Refusals.{Answer, Outcome, says, judged}
 use Rattle.rules.proofs.Zeros.{drop-zeros}
 use Rattle.rules.proofs.Judged.{judged-0}
 use Rattle.rules.proofs.Words.{words-records, length-records}
@@ -24,7 +24,7 @@ use Rattle.compose.specs.Composed.{Composed}
 use Rattle.slot.specs.Slot.{headOf, replaced, Replaceable}
 
 pub refused-slot : (s : List ℕ) (rs : List Rec) (number place : ℕ) → (number ≡ 0 → ⊥) →
-    judged (measureOf s) (indentOf s) rs ≡ says number place → _≡_ {A = Outcome} (says number place, s) (replaced s rs)
+    judged (measureOf s) (indentOf s) rs ≡ says number place → _≡_ {A = Outcome Answer} (says number place, s) (replaced s rs)
 unfolding replaced
 refused-slot s rs number place z e = rw (e, ne-eqb number 0 z)
 
@@ -40,11 +40,11 @@ line-count m x rs p e =
 regrouped : (p l q s : List ℕ) → p ++ (l ++ (q ++ s)) ≡ p ++ l ++ q ++ s
 regrouped p l q s = simp append-assoc
 
-assembled : (clinic m x : ℕ) {n n′ k k′ : ℕ} {a a′ b b′ c c′ : List ℕ} →
+assembled : (t : Setting) {n n′ k k′ : ℕ} {a a′ b b′ c c′ : List ℕ} →
     n ≡ n′ → k ≡ k′ → a ≡ a′ → b ≡ b′ → c ≡ c′ →
-    head clinic m x n k ++ (a ++ (b ++ c)) ≡ head clinic m x n′ k′ ++ a′ ++ b′ ++ c′
-assembled clinic m x {n′ = n′} {k′ = k′} {a′ = a′} {b′ = b′} {c′ = c′} p q e f g =
-    (λ i. head clinic m x (p i) (q i) ++ (e i ++ (f i ++ g i))) ∙ regrouped (head clinic m x n′ k′) a′ b′ c′
+    head t n k ++ (a ++ (b ++ c)) ≡ head t n′ k′ ++ a′ ++ b′ ++ c′
+assembled t {n′ = n′} {k′ = k′} {a′ = a′} {b′ = b′} {c′ = c′} p q e f g =
+    (λ i. head t (p i) (q i) ++ (e i ++ (f i ++ g i))) ∙ regrouped (head t n′ k′) a′ b′ c′
 
 module _ (s list : List ℕ) (total : ℕ) (h : Replaceable s list total) where
   abbrev ws : List ℕ
@@ -70,7 +70,7 @@ module _ (s list : List ℕ) (total : ℕ) (h : Replaceable s list total) where
   pub accepted-slot : (places lines words : List ℕ) (number place : ℕ) → number ≡ 0 →
       Composed ws (measureOf s) (indentOf s) (zeros 512) (zeros 768) places lines number place →
       words ≡ headOf s (total / 6) place ++ (list ++ (places ++ lines)) →
-      _≡_ {A = Outcome} (says number place, words) (replaced s (paragraph ws))
+      _≡_ {A = Outcome Answer} (says number place, words) (replaced s (paragraph ws))
   unfolding replaced slotWords
   accepted-slot places lines words number place z c w =
       let m = measureOf s in
@@ -90,4 +90,4 @@ module _ (s list : List ℕ) (total : ℕ) (h : Replaceable s list total) where
       ∙ ap (λ j. 3 * j) (sym k)) (omega (arith, replaced-few, few, n, k)) in
       let t : total / 6 ≡ length rs = omega (arith, six, n) in
       let e : eqb (judged m x rs .number) 0 ≡ true = rw (c .answer, z) in
-      rw (e, c .answer) (ap (λ o. (says number place, o)) (w ∙ assembled (clinicOf s) m x t k list-padded p l))
+      rw (e, c .answer) (ap (λ o. (says number place, o)) (w ∙ assembled (settingOf s) t k list-padded p l))

@@ -1,6 +1,6 @@
 -- One slot's words, in pieces, as the program writes them.
 --
---   head of      the eight words of a head, with the slot's clinic, measure and indent and other counts
+--   head of      the eight words of a head, with the slot's setting and other counts
 --   spliced      the words of a record list with a stretch replaced
 --   replaced     what becomes of a slot whose records are to be others: the answer, and the slot's words
 --
@@ -13,11 +13,11 @@ use lib.Dec.{eqb}
 use lib.ListN.{length, take, drop}
 use Rattle.rules.specs.Basics.{zeros}
 use Rattle.rules.specs.Records.{Rec}
-use Rattle.rules.specs.Sheet.{head, slotWords, clinicOf, measureOf, indentOf, limitsOk}
-use Rattle.rules.specs.Refusals.{Outcome, judged}
+use Rattle.rules.specs.Sheet.{head, slotWords, measureOf, indentOf, settingOf, limitsOk}
+use Rattle.rules.specs.Refusals.{Answer, Outcome, judged}
 
 abbrev pub headOf : List ℕ → ℕ → ℕ → List ℕ
-headOf s n lines = head (clinicOf s) (measureOf s) (indentOf s) n lines
+headOf s n lines = head (settingOf s) n lines
 
 -- words up to `before`, then others, then the words from `after` on
 abbrev pub spliced : List ℕ → ℕ → ℕ → List ℕ → List ℕ
@@ -28,10 +28,10 @@ abbrev pub splicedInto : List ℕ → List ℕ → ℕ → ℕ → List ℕ → 
 splicedInto list ws before after inserted =
     spliced ws before after inserted ++ drop (before + length inserted + (length ws - after)) list
 
-unfoldable pub replaced : List ℕ → List Rec → Outcome
+unfoldable pub replaced : List ℕ → List Rec → Outcome Answer
 replaced s rs =
     let a = judged (measureOf s) (indentOf s) rs in
-    (a, cond (eqb (a .number) 0) (slotWords (clinicOf s) (measureOf s) (indentOf s) rs) s)
+    (a, cond (eqb (a .number) 0) (slotWords (settingOf s) rs) s)
 
 -- a slot whose measure and indent are within limits, and a list of whole records, with zeros past them, to replace
 -- its own

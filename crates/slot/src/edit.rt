@@ -2,7 +2,7 @@
 ghost use mathlib.Core.Path.{_≡_};
 ghost use mathlib.Core.Bool.{cond};
 ghost use lib.ListN.{length, take};
-ghost use Rattle.rules.specs.Refusals.{says, sound, editSlot};
+ghost use Rattle.rules.specs.Refusals.{says, editSays, sound, editSlot};
 ghost use Rattle.compose.specs.Paragraph.{paragraph};
 ghost use Rattle.slot.specs.Slot.{replaced, Replaceable};
 use crate::words::splice;
@@ -12,10 +12,18 @@ use compose::check;
 use compose::compose;
 use rules::limits_ok;
 
-fn refusal(number: u32, place: u32) -> Answer
+// A number and a place, as document 01's table of refusals has them for an edit. It is apart from set-up's answer, so
+// that an edit can tell more.
+#[repr(C)]
+pub struct EditAnswer {
+    pub number: u32,
+    pub place: u32,
+}
+
+fn refusal(number: u32, place: u32) -> EditAnswer
     ensures { λ r. ⌜ (r .number ≡ number) × (r .place ≡ place) ⌝ }
 {
-    Answer {
+    EditAnswer {
         number: number,
         place: place,
     }
@@ -70,9 +78,9 @@ fn replace(words: &mut [u32], list: &[u32], total: usize) -> Answer
 
 // One slot's edit: `deleted` records go out at `place`, and the inserted ones come in there. The new record list is
 // held in a local until every check has passed.
-pub fn edit_slot(words: &mut [u32], place: u32, deleted: u32, inserted: &[u32]) -> Answer
+pub fn edit_slot(words: &mut [u32], place: u32, deleted: u32, inserted: &[u32]) -> EditAnswer
     requires { ⌜ length (now words) ≡ 2824 ⌝ }
-    ensures { λ r. ⌜ (says (r .number) (r .place), now (words .exit)) ≡
+    ensures { λ r. ⌜ (editSays (r .number) (r .place), now (words .exit)) ≡
         editSlot (now (words .entry)) place deleted (now (inserted .entry)) ⌝ }
 {
     let stored = stored_answer(words);
@@ -103,5 +111,9 @@ pub fn edit_slot(words: &mut [u32], place: u32, deleted: u32, inserted: &[u32]) 
         (place + deleted) as usize * 6,
         inserted,
     );
-    replace(words, &list, kept + n)
+    let a = replace(words, &list, kept + n);
+    EditAnswer {
+        number: a.number,
+        place: a.place,
+    }
 }

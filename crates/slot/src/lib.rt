@@ -3,4 +3,5 @@ mod edit;
 mod words;
 
 pub use compose::Answer;
+pub use edit::EditAnswer;
 pub use edit::edit_slot;

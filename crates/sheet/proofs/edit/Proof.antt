@@ -3,9 +3,9 @@ use mathlib.Core.Path.{_≡_, sym, _∙_}
 use native.Mathlib.Omega.{arith}
 use borrow.Author.Needs.{needs}
 use denote.Ref.{now}
-use Rattle.rules.specs.Refusals.{called}
+use Rattle.rules.specs.Refusals.{asEdit, called, edit}
 use Rattle.sheet.proofs.Tables.{same-number}
-use Rattle.sheet.proofs.Entry.{entered, edit-refused, edit-entered}
+use Rattle.sheet.proofs.Entry.{entered, on-refused, on-entered}
 use Rattle.sheet.proofs.edit.Statement.{statement}
 use Rattle.sheet.proofs.edit.Tie as tie
 
@@ -22,7 +22,8 @@ same-length : tie.Need-same-length
 same-length c = search needs
 
 returns : tie.Need-returns
-returns c = edit-refused _ _ _ _ _ _ _ (c .before .before .called .ensures) (c .if1 .taken)
+unfolding edit
+returns c = on-refused asEdit _ _ _ _ _ (c .before .before .called .ensures) (c .if1 .taken)
 
 cast-start : tie.Need-cast-start
 cast-start c = search needs
@@ -52,9 +53,10 @@ same-length-2 : tie.Need-same-length-2
 same-length-2 c = search needs
 
 returns-2 : tie.Need-returns-2
+unfolding edit
 returns-2 c =
     let d = c .before .before in
-    edit-entered _ _ _ _ _ _ _ _ (zero (d .before .before .before)) (d .edit-slot .ensures)
+    on-entered asEdit _ _ _ _ _ _ (zero (d .before .before .before)) (d .edit-slot .ensures)
 
 pub edit-spec : {M : Type 1} → statement M
 edit-spec =

@@ -17,7 +17,7 @@ told : (c : tie.After-read-part) →
     (c .read-part .result .start ≡ s)
     × (c .read-part .result .end ≡ s + readLength (now (a .sheet)) (a .caller .0) (a .slot .0))
 told c =
-    let e = c .read-part .ensures in
+    let e = c .read-part .ensures .0 in
     (ap (λ (p : ℕ × ℕ). p .0) e, ap (λ (p : ℕ × ℕ). p .1) e)
 
 -- the part lies within the sheet
@@ -45,7 +45,7 @@ returns c =
     let a = k .before .before .args in
     let n : r .end - r .start ≡ readLength (now (a .sheet)) (a .caller .0) (a .slot .0) = omega (arith, e .0, e .1) in
     let p = part-is _ _ _ (r .start) (r .end - r .start) (e .0) n (omega (arith, fits k .0, fits k .1)) in
-    (p .words, (p .count, (refl, omega (arith, e .0))))
+    (p .words, (p .count, ((refl, omega (arith, e .0)), refl)))
 
 pub read-spec : {M : Type 1} → statement M
 read-spec =

@@ -1,5 +1,5 @@
 -- `sheet::read_number` meets its contract. Assumes nothing.
-use mathlib.Core.Path.{_≡_, sym, _∙_}
+use mathlib.Core.Path.{_≡_, refl, sym, _∙_}
 use native.Mathlib.Omega.{arith}
 use borrow.Author.Needs.{needs}
 use borrow.Author.Tests.{lt-ltb, le-ltb}
@@ -21,7 +21,7 @@ called-requires : tie.Need-called-requires
 called-requires c κs = search needs
 
 returns : tie.Need-returns
-returns c = number-refused _ _ _ _ (same-number (c .before .before .called .ensures)) (c .if1 .taken)
+returns c = (number-refused _ _ _ _ (same-number (c .before .before .called .ensures)) (c .if1 .taken), refl)
 
 cast-head : tie.Need-cast-head
 cast-head c = search needs
@@ -39,10 +39,10 @@ shared-slice-read-if2 : tie.Need-shared-slice-read-if2
 shared-slice-read-if2 c = let e = entered _ _ _ (zero (c .before .before)) in omega arith
 
 returns-2 : tie.Need-returns-2
-returns-2 c = sym (number-entered _ _ _ (zero (c .before .before .before)) ∙ rw (lt-ltb _ _ (c .if2 .taken)))
+returns-2 c = (sym (number-entered _ _ _ (zero (c .before .before .before)) ∙ rw (lt-ltb _ _ (c .if2 .taken))), refl)
 
 returns-3 : tie.Need-returns-3
-returns-3 c = sym (number-entered _ _ _ (zero (c .before .before .before)) ∙ rw (le-ltb _ _ (c .if2 .left)))
+returns-3 c = (sym (number-entered _ _ _ (zero (c .before .before .before)) ∙ rw (le-ltb _ _ (c .if2 .left))), refl)
 
 pub read-number-spec : {M : Type 1} → statement M
 read-number-spec =

@@ -1,5 +1,5 @@
 -- `sheet::read_part` meets its contract. Assumes nothing.
-use mathlib.Core.Path.{_≡_, ap, sym, _∙_}
+use mathlib.Core.Path.{_≡_, refl, ap, sym, _∙_}
 use native.Mathlib.Omega.{arith}
 use borrow.Author.Needs.{needs}
 use denote.Ref.{now}
@@ -20,18 +20,18 @@ shared-slice-read-count c = let e = entered _ _ _ (zero (c .before .before)) in 
 returns : tie.Need-returns
 returns c =
     let r = read-opened _ _ _ (number-under _ _ _ (zero (c .before .before .before)) (c .if2 .taken)) in
-    rw (r .0, r .1)
+    (rw (r .0, r .1), refl)
 
 returns-2 : tie.Need-returns-2
 returns-2 c =
     let r = read-refused _ _ _ (number-over _ _ _ (zero (c .before .before .before)) (c .if2 .left)) in
-    rw (r .0, r .1)
+    (rw (r .0, r .1), refl)
 
 returns-3 : tie.Need-returns-3
 returns-3 c =
     let n = ap (λ a. a .number) (c .before .before .called .ensures) in
     let r = read-refused _ _ _ (λ z. c .if1 .left (n ∙ number-called _ _ _ z)) in
-    rw (r .0, r .1)
+    (rw (r .0, r .1), refl)
 
 pub read-part-spec : {M : Type 1} → statement M
 read-part-spec =

@@ -7,7 +7,7 @@ use native.Mathlib.Omega.{arith}
 use denote.Ref.{now}
 use Rattle.rules.specs.Basics.{zeros}
 use Rattle.rules.specs.Sheet.{countOf}
-use Rattle.rules.specs.Refusals.{sound}
+use Rattle.rules.specs.Refusals.{Answer, asEdit, Outcome, sound}
 use Rattle.slot.specs.Slot.{replaced}
 use Rattle.slot.proofs.Stored.{sound-limits, sound-count, stored-0, stored-4}
 use Rattle.slot.proofs.Outcomes.{answers, refuses-4, refuses-5, refuses-5-end, refuses-6, refuses-7, replaces}
@@ -130,8 +130,8 @@ returns-6 c =
     let five = seven .before .before in
     let four = five .before .before .before in
     let a = spliced s .args in
-    c .before .before .replace .ensures
-    ∙ ap (replaced (now (a .words))) (new-list-at s .records)
+    ap (λ (o : Outcome Answer). (asEdit (o .0), o .1))
+    (c .before .before .replace .ensures ∙ ap (replaced (now (a .words))) (new-list-at s .records))
     ∙ sym
     (replaces (now (a .words)) (a .place) (a .deleted) (now (a .inserted)) (is-sound-at four) (within-at five)
     (seven .before .if4 .left)

@@ -1,0 +1,74 @@
+-- What is proved of the exports, in reading order: what crate `sheet` proves of every run of its calls, said of runs of
+-- `gelumbrio_*`. Each claim is proved by one citation. Assumes nothing.
+use mathlib.Core.Path.{_≡_}
+use Prim.Native.Nat.{ℕ}
+use mathlib.Core.List.{List, map}
+use lib.ListN.{length, getD}
+use Rattle.sheet.specs.Book.{SlotCall, reads, call-on, numberOf}
+use Rattle.sheet.specs.Meanings.{Outside, AlikeFor, LeftAlike}
+use Rattle.sheet.specs.declared.Clinic.{Clinic}
+use Rattle.sheet.specs.declared.SlotNumber.{SlotNumber}
+use Rattle.sheet.proofs.Runs.{call, before, after, reply, Chained}
+use Rattle.sheet.proofs.Booked.{Begun, AsBooked}
+use Rattle.sheet.proofs.Claims as sheet
+use Rattle.gelumbrio.proofs.Exports.{Export, handed}
+use Rattle.gelumbrio.proofs.gelumbrio_set_up.Statement as set-up-contract
+use Rattle.gelumbrio.proofs.gelumbrio_set_up.Met as set-up-met
+use Rattle.gelumbrio.proofs.gelumbrio_edit.Statement as edit-contract
+use Rattle.gelumbrio.proofs.gelumbrio_edit.Met as edit-met
+use Rattle.gelumbrio.proofs.gelumbrio_read.Statement as read-contract
+use Rattle.gelumbrio.proofs.gelumbrio_read.Met as read-met
+use Rattle.gelumbrio.proofs.gelumbrio_read_number.Statement as read-number-contract
+use Rattle.gelumbrio.proofs.gelumbrio_read_number.Met as read-number-met
+use Rattle.gelumbrio.proofs.gelumbrio_ruby_place.Statement as ruby-place-contract
+use Rattle.gelumbrio.proofs.gelumbrio_ruby_place.Met as ruby-place-met
+
+-- Demand 1 ----------------------------------------------------------------------------------------------------------
+
+-- the exports meet their contracts, each for any words, numbers and lengths
+pub set-up-meets : {M : Type 1} → set-up-contract.statement M
+set-up-meets = set-up-met.met
+
+pub edit-meets : {M : Type 1} → edit-contract.statement M
+edit-meets = edit-met.met
+
+pub read-meets : {M : Type 1} → read-contract.statement M
+read-meets = read-met.met
+
+pub read-number-meets : {M : Type 1} → read-number-contract.statement M
+read-number-meets = read-number-met.met
+
+pub ruby-place-meets : {M : Type 1} → ruby-place-contract.statement M
+ruby-place-meets = ruby-place-met.met
+
+-- every refusal leaves the whole sheet unchanged, and no call changes its length
+pub refusals-change-nothing : (e : Export) → let r = handed e in (numberOf (reply r) ≡ 0 → ⊥) → after r ≡ before r
+refusals-change-nothing e = sheet.refusals-change-nothing (handed e)
+
+pub length-kept : (e : Export) → let r = handed e in length (after r) ≡ length (before r)
+length-kept e = sheet.length-kept (handed e)
+
+-- Demand 3 ----------------------------------------------------------------------------------------------------------
+
+-- a sequence of exported calls, on a sheet of any words, from the first accepted set-up on
+pub demand-3 : (ws : List ℕ) (es : List Export) → let rs = map handed es in Begun rs → Chained ws rs → AsBooked ws rs
+demand-3 ws es = sheet.demand-3 ws (map handed es)
+
+-- a call on a slot changes no word outside it, and a read none at all
+pub reach : (e : Export) (c : Clinic) (k : SlotNumber) (q : SlotCall) →
+    let r = handed e in
+    call r ≡ call-on c k q → (i : ℕ) → Outside (k .0) i → getD (after r) i 0 ≡ getD (before r) i 0
+reach e = sheet.reach (handed e)
+
+pub read-reach : (e : Export) (c : Clinic) (k : SlotNumber) →
+    let r = handed e in
+    call r ≡ call-on c k reads → after r ≡ before r
+read-reach e = sheet.read-reach (handed e)
+
+-- two sheets: where they are alike for a call, two runs of it reply the same, and leave the caller's own slot the same
+pub two-sheets : (e f : Export) →
+    let r = handed e in
+    let q = handed f in
+    call r ≡ call q → AlikeFor (call r) (before r) (before q) →
+    (reply r ≡ reply q) × LeftAlike (call r) (reply r) (before r) (after r) (after q)
+two-sheets e f = sheet.two-sheets (handed e) (handed f)

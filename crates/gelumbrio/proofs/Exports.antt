@@ -1,0 +1,59 @@
+-- Runs of the exports, of which the claims speak: arguments, result, parameters at exit, and what the export's own
+-- contract promises of these. Assumes nothing.
+use mathlib.Core.Path.{_≡_}
+use Prim.Native.Nat.{ℕ}
+use mathlib.Core.List.{List}
+use denote.Ref.{now}
+use Rattle.sheet.proofs.Runs.{Ran, InTurn, Run, set-up-run, edit-run, read-part-run}
+use Rattle.gelumbrio.proofs.gelumbrio_set_up.Kinds as set-up-kinds
+use Rattle.gelumbrio.proofs.gelumbrio_set_up.Reads as set-up-reads
+use Rattle.gelumbrio.proofs.gelumbrio_edit.Kinds as edit-kinds
+use Rattle.gelumbrio.proofs.gelumbrio_edit.Reads as edit-reads
+use Rattle.gelumbrio.proofs.gelumbrio_read.Kinds as read-kinds
+use Rattle.gelumbrio.proofs.gelumbrio_read.Reads as read-reads
+use Rattle.gelumbrio.proofs.gelumbrio_read_number.Kinds as number-kinds
+use Rattle.gelumbrio.proofs.gelumbrio_read_number.Reads as number-reads
+
+abbrev pub SetUpExport : Type 0
+SetUpExport = Ran 4 set-up-kinds.ps set-up-kinds.r set-up-reads.Learnt
+
+abbrev pub EditExport : Type 0
+EditExport = Ran 2 edit-kinds.ps edit-kinds.r edit-reads.Learnt
+
+abbrev pub PartExport : Type 0
+PartExport = Ran 1 read-kinds.ps read-kinds.r read-reads.Learnt
+
+abbrev pub NumberExport : Type 0
+NumberExport = Ran 1 number-kinds.ps number-kinds.r number-reads.Learnt
+
+-- a read and its companion, told the same things, in either order
+pub record ReadExport : Type 0 where
+  pub part : PartExport
+  pub number : NumberExport
+  pub found : List ℕ
+  pub left : List ℕ
+  pub in-turn : InTurn (now (part .args .0)) (now (part .exit .0)) (now (number .args .0)) (now (number .exit .0)) found
+      left
+  pub same-caller : number .args .1 .0 ≡ part .args .1 .0
+  pub same-slot : number .args .1 .1 .0 ≡ part .args .1 .1 .0
+
+pub data Export : Type 0 where
+  set-up-export : SetUpExport → Export
+  edit-export : EditExport → Export
+  read-export : ReadExport → Export
+
+-- an export's run is one of the call that it hands on: the two contracts are the same statement
+abbrev pub handed : Export → Run
+handed (set-up-export u) = set-up-run u
+handed (edit-export u) = edit-run u
+handed (read-export u) =
+    read-part-run
+    (record {
+      part = u .part;
+      number = u .number;
+      found = u .found;
+      left = u .left;
+      in-turn = u .in-turn;
+      same-caller = u .same-caller;
+      same-slot = u .same-slot;
+    })

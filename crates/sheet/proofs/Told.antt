@@ -1,0 +1,80 @@
+-- What runs of the calls do is what the definitions say: their contracts. Assumes nothing.
+use mathlib.Core.Path.{_≡_, refl, sym, ap, _∙_}
+use Prim.Native.Nat.{ℕ, _-_}
+use mathlib.Core.List.{List, [], _∷_, map}
+use lib.ListN.{take, drop}
+use denote.Ref.{now}
+use Rattle.rules.specs.Refusals.{Answer, EditAnswer, asEdit, Outcome, editSlot, onSlot, edit}
+use Rattle.rules.specs.Refusals.{readNumber, readPart, readWords}
+use Rattle.sheet.specs.Book.{Call, edits, reads, refusal, inSlot, step, runSheet}
+use Rattle.sheet.specs.Book.{Reply, set-up-reply, edit-reply, read-reply}
+use Rattle.sheet.specs.declared.Clinic.{Clinic}
+use Rattle.sheet.specs.declared.SlotNumber.{SlotNumber}
+use Rattle.sheet.proofs.OnSlot.{on-reply}
+use Rattle.sheet.proofs.Reading.{part-words, read-on-slot}
+use Rattle.sheet.proofs.Runs.{InTurn, the-one-first, the-other-first, ReadRun, ReadPartRun, Run, set-up-run}
+use Rattle.sheet.proofs.Runs.{caller, slot, place, deleted, inserted, edit-run, read-run, read-part-run, call, before, after, between, reply}
+use Rattle.sheet.proofs.Runs.{Chained, final}
+
+-- Reads -------------------------------------------------------------------------------------------------------------
+
+-- where both calls of a read leave the sheet as it is, they find the same sheet and leave it
+in-turn : {p q r s found left : List ℕ} → InTurn p q r s found left → q ≡ p → s ≡ r →
+    (p ≡ found) × (r ≡ found) × (left ≡ found)
+in-turn (the-one-first e) f g = (refl, sym e ∙ f, g ∙ sym e ∙ f)
+in-turn (the-other-first e) f g = (sym e ∙ g, refl, f ∙ sym e ∙ g)
+
+-- the number and the words of a read, on the sheet that both calls find
+read-told : {found left words : List ℕ} {n : ℕ} (c : Clinic) (k : SlotNumber) → left ≡ found →
+    n ≡ readNumber found (c .0) (k .0) → words ≡ readWords found (c .0) (k .0) →
+    _≡_ {A = Outcome Reply} (read-reply n words, left) (onSlot (refusal reads) found (c .0) (k .0) (inSlot reads))
+read-told {found} {left} {words} {n} c k e f g = rw (e, f, g) (read-on-slot found (c .0) (k .0))
+
+slice-told : (u : ReadRun) → _≡_ {A = Outcome Reply} (reply (read-run u), after (read-run u))
+    (step (call (read-run u)) (before (read-run u)))
+slice-told u =
+    let a = u .part .args in
+    let t = in-turn (u .in-turn) (u .part .learnt .1 .1 .1) (u .number .learnt .1) in
+    read-told (a .1 .0) (a .1 .1 .0) (t .2)
+    (rw (u .same-caller, u .same-slot, t .1) at (u .number .learnt .0))
+    (rw (t .0) at (u .part .learnt .0))
+
+part-told : (u : ReadPartRun) → _≡_ {A = Outcome Reply} (reply (read-part-run u), after (read-part-run u))
+    (step (call (read-part-run u)) (before (read-part-run u)))
+part-told u =
+    let a = u .part .args in
+    let t = in-turn (u .in-turn) (u .part .learnt .1) (u .number .learnt .1) in
+    let p : _≡_ {A = ℕ × ℕ} (u .part .result .start, u .part .result .end) (readPart (u .found) (a .1 .0 .0) (a .1 .1 .0 .0))
+    = rw (t .0) at (u .part .learnt .0) in
+    read-told (a .1 .0) (a .1 .1 .0) (t .2)
+    (rw (u .same-caller, u .same-slot, t .1) at (u .number .learnt .0))
+    (ap (λ (q : ℕ × ℕ). between (q .0) (q .1) (u .left)) p
+    ∙ ap (λ w. let q = readPart (u .found) (a .1 .0 .0) (a .1 .1 .0 .0) in between (q .0) (q .1) w) (t .2)
+    ∙ part-words (u .found) (a .1 .0 .0) (a .1 .1 .0 .0))
+
+-- Any run -----------------------------------------------------------------------------------------------------------
+
+-- an edit's outcome as a reply
+edit-step : (ws : List ℕ) (caller k place deleted : ℕ) (inserted : List ℕ) →
+    let o = edit ws caller k place deleted inserted in
+    let q = edits place deleted inserted in
+    _≡_ {A = Outcome Reply} (edit-reply (o .0), o .1) (onSlot (refusal q) ws caller k (inSlot q))
+unfolding edit
+edit-step ws caller k place deleted inserted =
+    on-reply edit-reply asEdit ws caller k (λ s. editSlot s place deleted inserted)
+
+pub told : (r : Run) → _≡_ {A = Outcome Reply} (reply r, after r) (step (call r) (before r))
+told (set-up-run u) = ap (λ (o : Outcome Answer). (set-up-reply (o .0), o .1)) (u .learnt)
+told (edit-run u) =
+    ap (λ (o : Outcome EditAnswer). (edit-reply (o .0), o .1)) (u .learnt)
+    ∙ edit-step (now (u .args .0)) (caller u .0) (slot u .0) (place u) (deleted u) (inserted u)
+told (read-run u) = slice-told u
+told (read-part-run u) = part-told u
+
+pub runs-are : (rs : List Run) (ws : List ℕ) → Chained ws rs →
+    _≡_ {A = List Reply × List ℕ} (map reply rs, final ws rs) (runSheet (map call rs) ws)
+runs-are [] ws h = refl
+runs-are (r ∷ rs) ws h =
+    let t : _≡_ {A = Outcome Reply} (reply r, after r) (step (call r) ws) = rw (h .0) at (told r) in
+    ap (λ (o : List Reply × List ℕ). (reply r ∷ o .0, o .1)) (runs-are rs (after r) (h .1))
+    ∙ ap (λ (o : Outcome Reply). (o .0 ∷ runSheet (map call rs) (o .1) .0, runSheet (map call rs) (o .1) .1)) t
