@@ -3,7 +3,7 @@
 use mathlib.Core.Path.{_≡_, _∙_, sym}
 use Prim.Native.Nat.{ℕ, _+_, _/_, _≤_, _<_}
 use mathlib.Core.Bool.{Bool, true, false}
-use mathlib.Core.List.{List, _∷_, _++_}
+use mathlib.Core.List.{List, _∷_, _++_, map}
 use mathlib.Core.Logic.{_↔_}
 use mathlib.Core.Option.{none, some}
 use lib.ListN.{length, getD}
@@ -16,6 +16,7 @@ use Rattle.rules.specs.Meanings.{All, lastOf, Maximal, Boundary, OneUnit
 use Rattle.rules.specs.Meanings.{GapAt, WithinLimits, FirstStageFull}
 use Rattle.rules.proofs.Facts.{some-none}
 use Rattle.rules.proofs.Cases.{rows, right, cases-hold}
+use Rattle.rules.proofs.PairCases.{pairs, ruled, wanted, pairs-hold}
 use Rattle.rules.proofs.Cuts.{cut-maximal, maximal-only, boundary-exact, units-one}
 use Rattle.rules.proofs.NoBreaking.{breaking-exists, due-exactly, place-of-10}
 use Rattle.rules.proofs.Breaking.{breaking-choice, lines-fit}
@@ -130,3 +131,7 @@ final-line m x l fits h = final-ends m x l fits h
 -- C1 to C13
 pub composed-by-hand : right rows ≡ true
 composed-by-hand = cases-hold
+
+-- the break and the gap between two units, rule by rule
+pub pairs-by-hand : map ruled pairs ≡ map wanted pairs
+pairs-by-hand = pairs-hold

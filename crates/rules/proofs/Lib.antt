@@ -3,6 +3,7 @@
 pub mod Facts
 pub mod Judged
 pub mod Cases
+pub mod PairCases
 pub mod Cuts
 pub mod Widths
 pub mod Breaking
