@@ -12,8 +12,9 @@ use Rattle.rules.specs.Records.{Rec}
 use Rattle.rules.specs.Groups.{TextUnit, sameGroup, units, advance, groupAdvance, baseOffsets, rubyOffset}
 use Rattle.rules.specs.Breaks.{Gap, bound, width, runs, noBreaking, breaking}
 use Rattle.rules.specs.Adjustment.{amountsOf, totals, natural, lineOf}
-use Rattle.rules.specs.Meanings.{All, lastOf, Maximal, Boundary, OneUnit, Choice, Fits, Longest, FirstWide}
-use Rattle.rules.specs.Meanings.{GapAt, WithinLimits, FirstStageFull}
+use Rattle.rules.specs.Refusals.{judged}
+use Rattle.rules.specs.Meanings.{All, lastOf, Maximal, Boundary, OneUnit, RubyPlaced, Choice, Fits, Longest}
+use Rattle.rules.specs.Meanings.{FirstWide, GapAt, WithinLimits, FirstStageFull}
 use Rattle.rules.proofs.Facts.{some-none}
 use Rattle.rules.proofs.Cases.{rows, right, cases-hold}
 use Rattle.rules.proofs.PairCases.{pairs, ruled, wanted, pairs-hold}
@@ -26,6 +27,7 @@ use Rattle.rules.proofs.Ends.{ends-within, wide-ends, flush-ends, short
 use Rattle.rules.proofs.GapLimits.{within-limits}
 use Rattle.rules.proofs.GapLimits.{first-stage-full}
 use Rattle.rules.proofs.GroupRows.{base-within, ruby-within}
+use Rattle.rules.proofs.RubyPlaces.{accepted-placed}
 
 -- Units ------------------------------------------------------------------------------------------------------------
 
@@ -51,6 +53,10 @@ base-row-within u rs r qs e = base-within u rs r qs e
 
 pub ruby-row-within : (base n s k : ℕ) → k < n → rubyOffset base n s k + s / 2 ≤ groupAdvance base n s
 ruby-row-within base n s k h = ruby-within base n s k h
+
+-- of records that are accepted in some measure, ruby place gives every ruby character of every group its offset
+pub ruby-placed : (m x : ℕ) (rs : List Rec) → judged m x rs .number ≡ 0 → All RubyPlaced (units rs)
+ruby-placed m x rs h = accepted-placed m x rs h
 
 -- Breaks -----------------------------------------------------------------------------------------------------------
 

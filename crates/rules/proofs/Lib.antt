@@ -16,6 +16,8 @@ pub mod GapLimits
 pub mod GroupRows
 pub mod Limits
 pub mod GroupLimits
+pub mod GroupedRecords
+pub mod RubyPlaces
 pub mod Words
 pub mod Lengths
 pub mod Zeros
