@@ -11,7 +11,6 @@ use lib.Dec.{eqb}
 use Rattle.rules.specs.Basics.{zeros}
 use Rattle.rules.specs.Records.{Rec, recordWords}
 use Rattle.rules.specs.Groups.{TextUnit, units, baseTotal, rubyPlace}
-use Rattle.rules.specs.Sides.{forbidden}
 use Rattle.rules.specs.Adjustment.{compose}
 use Rattle.rules.specs.Sheet.{placeWords, lineWords, setting, slotWords}
 use Rattle.rules.specs.Refusals.{judged}
@@ -124,9 +123,3 @@ pub c3-whole : slotWords (setting 7 440 0) (K ∷ K ∷ K ∷ K ∷ K ∷ K ∷ 
     ++ ((0 ∷ 440 ∷ 1 ∷ 5 ∷ 80 ∷ 3 ∷ []) ++ zeros 762)
 unfolding computed
 c3-whole = refl
-
--- "All other breaks are permitted, 27 before 13 included."
-pub postfix-permitted :
-    forbidden (record { class = 27; size = 80; code = 0x35 }) (record { class = 13; size = 80; code = 0x25 }) ≡ false
-unfolding computed
-postfix-permitted = refl

@@ -3,7 +3,7 @@
 use mathlib.Core.Path.{_≡_, _∙_, sym}
 use Prim.Native.Nat.{ℕ, _+_, _/_, _≤_, _<_}
 use mathlib.Core.Bool.{Bool, true, false}
-use mathlib.Core.List.{List, _∷_, _++_}
+use mathlib.Core.List.{List, _∷_, _++_, map}
 use mathlib.Core.Logic.{_↔_}
 use mathlib.Core.Option.{none, some}
 use lib.ListN.{length, getD}
@@ -13,10 +13,12 @@ use Rattle.rules.specs.Groups.{TextUnit, sameGroup, units, advance, grou
 use Rattle.rules.specs.Gaps.{Gap}
 use Rattle.rules.specs.Breaks.{bound, width, runs, noBreaking, breaking}
 use Rattle.rules.specs.Adjustment.{amountsOf, totals, natural, lineOf}
-use Rattle.rules.specs.Meanings.{All, lastOf, Maximal, Boundary, OneUnit, Choice, Fits, Longest, FirstWide}
-use Rattle.rules.specs.Meanings.{GapAt, WithinLimits, FirstStageFull}
+use Rattle.rules.specs.Refusals.{judged}
+use Rattle.rules.specs.Meanings.{All, lastOf, Maximal, Boundary, OneUnit, RubyPlaced, Choice, Fits, Longest}
+use Rattle.rules.specs.Meanings.{FirstWide, GapAt, WithinLimits, FirstStageFull}
 use Rattle.rules.proofs.Facts.{some-none}
 use Rattle.rules.proofs.Cases.{rows, right, cases-hold}
+use Rattle.rules.proofs.PairCases.{pairs, ruled, wanted, pairs-hold}
 use Rattle.rules.proofs.Cuts.{cut-maximal, maximal-only, boundary-exact, units-one}
 use Rattle.rules.proofs.NoBreaking.{breaking-exists, due-exactly, place-of-10}
 use Rattle.rules.proofs.Breaking.{breaking-choice, lines-fit}
@@ -26,6 +28,7 @@ use Rattle.rules.proofs.Ends.{ends-within, wide-ends, flush-ends, short
 use Rattle.rules.proofs.GapLimits.{within-limits}
 use Rattle.rules.proofs.GapLimits.{first-stage-full}
 use Rattle.rules.proofs.GroupRows.{base-within, ruby-within}
+use Rattle.rules.proofs.RubyPlaces.{accepted-placed}
 
 -- Units ------------------------------------------------------------------------------------------------------------
 
@@ -51,6 +54,10 @@ base-row-within u rs r qs e = base-within u rs r qs e
 
 pub ruby-row-within : (base n s k : ℕ) → k < n → rubyOffset base n s k + s / 2 ≤ groupAdvance base n s
 ruby-row-within base n s k h = ruby-within base n s k h
+
+-- of records that are accepted in some measure, ruby place gives every ruby character of every group its offset
+pub ruby-placed : (m x : ℕ) (rs : List Rec) → judged m x rs .number ≡ 0 → All RubyPlaced (units rs)
+ruby-placed m x rs h = accepted-placed m x rs h
 
 -- Breaks -----------------------------------------------------------------------------------------------------------
 
@@ -131,3 +138,7 @@ final-line m x l fits h = final-ends m x l fits h
 -- C1 to C13
 pub composed-by-hand : right rows ≡ true
 composed-by-hand = cases-hold
+
+-- the break and the gap between two units, rule by rule
+pub pairs-by-hand : map ruled pairs ≡ map wanted pairs
+pairs-by-hand = pairs-hold

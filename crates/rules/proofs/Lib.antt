@@ -3,6 +3,7 @@
 pub mod Facts
 pub mod Judged
 pub mod Cases
+pub mod PairCases
 pub mod Cuts
 pub mod Widths
 pub mod Breaking
@@ -15,6 +16,8 @@ pub mod GapLimits
 pub mod GroupRows
 pub mod Limits
 pub mod GroupLimits
+pub mod GroupedRecords
+pub mod RubyPlaces
 pub mod Words
 pub mod Lengths
 pub mod Zeros

@@ -7,6 +7,7 @@
 --   choice               of permitted breaks: non-empty lines that join up to the paragraph and meet at such breaks
 --   fits                 every line's smallest width is within the measure, the first line's with the indent
 --   longest              no longer line that ends at a permitted break or the paragraph's end fits
+--   ruby placed          ruby place refuses no ruby character of a unit
 --
 -- Assumes nothing.
 use mathlib.Core.Path.{_≡_}
@@ -14,8 +15,8 @@ use Prim.Native.Nat.{ℕ, _+_, _≤_, _<_}
 use mathlib.Core.Bool.{Bool, true, false}
 use mathlib.Core.List.{List, [], _∷_, _++_}
 use Rattle.rules.specs.Basics.{Run, whole, then, joined}
-use Rattle.rules.specs.Groups.{TextUnit, counts}
 use Rattle.rules.specs.Gaps.{Gap, least}
+use Rattle.rules.specs.Groups.{TextUnit, counts, baseTotal, rubyOk, rubyOffset, rubyPlace}
 use Rattle.rules.specs.Breaks.{bound, width, gap}
 use Rattle.rules.specs.Adjustment.{plus, nothing, Amounts, share, adjusted}
 
@@ -64,6 +65,15 @@ pub record Boundary {A : Type 0} (ls : List (Run A)) (ps qs : List A) : Type 0 w
 pub data OneUnit : TextUnit → Type 0 where
   single : {u : TextUnit} → u .rest ≡ [] → OneUnit u
   grouped : {u : TextUnit} → (u .first .group ≡ 0 → ⊥) → All (λ r. r .group ≡ u .first .group) (u .rest) → OneUnit u
+
+-- of a unit u: a group has a ruby character, each one's numbers are within ruby place's limits, and ruby place gives
+-- its offset
+pub record RubyPlaced (u : TextUnit) : Type 0 where
+  pub some-ruby : (u .first .group ≡ 0 → ⊥) → 0 < u .first .ruby
+  pub within-limits : (k : ℕ) → k < u .first .ruby → rubyOk (baseTotal u) (u .first .ruby) (u .first .size) k ≡ true
+  pub offset : (k : ℕ) → k < u .first .ruby →
+      rubyPlace (baseTotal u) (u .first .ruby) (u .first .size) k
+      ≡ (0, rubyOffset (baseTotal u) (u .first .ruby) (u .first .size) k)
 
 -- a choice of permitted breaks of the units us: lines, each boundary of which is a permitted break
 pub record Choice (us : List TextUnit) (ls : List (Run TextUnit)) : Type 0 where

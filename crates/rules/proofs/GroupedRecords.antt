@@ -1,0 +1,89 @@
+-- Bounds: what answer 8 leaves of a record of a group. Assumes nothing.
+use mathlib.Core.Path.{_≡_, sym}
+use Prim.Native.Nat.{ℕ, suc, _%_, _≤_, _<_}
+use native.Mathlib.Omega.{arith}
+use mathlib.Core.Bool.{Bool, true, false, _&&_, and-eq-true-iff}
+use mathlib.Core.List.{List, [], _∷_}
+use mathlib.Core.Logic.{inl, inr}
+use mathlib.Core.Option.{none, some}
+use lib.Dec.{leb, eqb}
+use borrow.Author.Tests.{eqb-true, leb-true, ne-eqb}
+use Rattle.rules.specs.Basics.{within, isIn}
+use Rattle.rules.specs.Records.{Rec, codeOk, classOk, sizeOk, advanceKind, advanceOk, groupOk, recOk, badRecord}
+use Rattle.rules.specs.Meanings.{All, all-none, all-more}
+use Rattle.rules.proofs.Bounds.{within-high}
+use Rattle.rules.proofs.Facts.{tested, true-false, some-none}
+
+pub within-low : (lo hi x : ℕ) → within lo hi x ≡ true → lo ≤ x
+within-low lo hi x e = leb-true lo x (and-eq-true-iff (leb lo x) (leb x hi) .0 e .0)
+
+abbrev pub Fine : Rec → Type 0
+Fine r = recOk r ≡ true
+
+pub all-fine : (i : ℕ) (rs : List Rec) → badRecord i rs ≡ none → All Fine rs
+unfolding badRecord
+all-fine i [] h = all-none
+all-fine i (r ∷ rs) h =
+    elim (tested (recOk r)) [
+      | inl e ↦ all-more e (all-fine (suc i) rs (rw (e, badRecord) at h))
+      | inr e ↦ let f : some i ≡ none = rw (e, badRecord) at h in absurd (some-none f)
+    ]
+
+-- what is asked of a record's size, advance and group
+record Asked (r : Rec) : Type 0 where
+  size : sizeOk (r .size) ≡ true
+  advance : advanceOk (r .class) (r .size) (r .advance) ≡ true
+  group : groupOk (r .class) (r .group) (r .ruby) ≡ true
+
+asked : (r : Rec) → Fine r → Asked r
+unfolding recOk
+asked r e =
+    let coded = codeOk (r .code) && classOk (r .class) in
+    let wide = advanceOk (r .class) (r .size) (r .advance) in
+    let p = and-eq-true-iff (coded && sizeOk (r .size) && wide) (groupOk (r .class) (r .group) (r .ruby)) .0 e in
+    let q = and-eq-true-iff (coded && sizeOk (r .size)) wide .0 (p .0) in
+    record { size = and-eq-true-iff coded (sizeOk (r .size)) .0 (q .0) .1; advance = q .1; group = p .1 }
+
+-- classes 15, 16 and 19 are as wide as their size
+as-wide : (c s a : ℕ) → isIn c (15 ∷ 16 ∷ 19 ∷ []) ≡ true → advanceOk c s a ≡ true → a ≡ s
+unfolding advanceOk advanceKind
+as-wide c s a e h =
+    elim (tested (eqb c 15)) [
+      | inl p ↦ eqb-true a s (rw (eqb-true c 15 p) at h)
+      | inr p ↦
+          elim (tested (eqb c 16)) [
+            | inl q ↦ eqb-true a s (rw (eqb-true c 16 q) at h)
+            | inr q ↦
+                elim (tested (eqb c 19)) [
+                  | inl z ↦ eqb-true a s (rw (eqb-true c 19 z) at h)
+                  | inr z ↦ let f : false ≡ true = rw (p, q, z) at e in absurd (true-false (sym f))
+                ]
+          ]
+    ]
+
+pub record Grouped (r : Rec) : Type 0 where
+  pub size : sizeOk (r .size) ≡ true
+  pub ruby : within 1 64 (r .ruby) ≡ true
+  pub low : 1 ≤ r .advance
+  pub high : r .advance ≤ 4000
+
+pub in-group : (r : Rec) → Fine r → (r .group ≡ 0 → ⊥) → Grouped r
+unfolding sizeOk groupOk
+in-group r e h =
+    let a = asked r e in
+    let kana = isIn (r .class) (15 ∷ 16 ∷ 19 ∷ []) in
+    let g : leb (r .group) 65535 && within 1 64 (r .ruby) && kana ≡ true = rw (ne-eqb (r .group) 0 h) at (a .group) in
+    let p = and-eq-true-iff (leb (r .group) 65535 && within 1 64 (r .ruby)) kana .0 g in
+    let s = and-eq-true-iff (eqb (r .size % 8) 0) (within 8 4000 (r .size)) .0 (a .size) .1 in
+    let full = as-wide (r .class) (r .size) (r .advance) (p .1) (a .advance) in
+    record {
+      size = a .size;
+      ruby = and-eq-true-iff (leb (r .group) 65535) (within 1 64 (r .ruby)) .0 (p .0) .1;
+      low = omega (arith, within-low 8 4000 (r .size) s);
+      high = omega (arith, within-high 8 4000 (r .size) s);
+    }
+
+-- a record with ruby is of a group
+pub has-group : (r : Rec) → Fine r → 0 < r .ruby → r .group ≡ 0 → ⊥
+unfolding groupOk
+has-group r e h z = omega (arith, eqb-true (r .ruby) 0 (rw z at (asked r e .group)))
