@@ -2,7 +2,7 @@
 
 use std::ops::Range;
 
-use second::{Answer, Edit, RubyPlace};
+use second::{Answer, Edit, EditAnswer, RubyPlace};
 
 /// A program that answers document 01's calls on raw words.
 pub trait Program {
@@ -10,7 +10,7 @@ pub trait Program {
     fn set_up(&self, sheet: &mut [u32], clinics: &[u32], measures: &[u32], indents: &[u32]) -> Answer;
 
     /// Edit.
-    fn edit(&self, sheet: &mut [u32], edit: Edit<'_>) -> Answer;
+    fn edit(&self, sheet: &mut [u32], edit: Edit<'_>) -> EditAnswer;
 
     /// Read's number.
     fn read_number(&self, sheet: &[u32], caller: u32, slot: u32) -> u32;
@@ -31,7 +31,7 @@ impl Program for Second {
         second::set_up(sheet, clinics, measures, indents)
     }
 
-    fn edit(&self, sheet: &mut [u32], edit: Edit<'_>) -> Answer {
+    fn edit(&self, sheet: &mut [u32], edit: Edit<'_>) -> EditAnswer {
         second::edit(sheet, edit)
     }
 
@@ -60,10 +60,10 @@ impl Program for Proved {
         Answer { number: answer.number, place: answer.place }
     }
 
-    fn edit(&self, sheet: &mut [u32], edit: Edit<'_>) -> Answer {
+    fn edit(&self, sheet: &mut [u32], edit: Edit<'_>) -> EditAnswer {
         let (caller, slot) = (gelumbrio::Clinic(edit.caller), gelumbrio::SlotNumber(edit.slot));
         let answer = gelumbrio::raw::edit(sheet, caller, slot, edit.place, edit.deleted, edit.inserted);
-        Answer { number: answer.number, place: answer.place }
+        EditAnswer { number: answer.number, place: answer.place }
     }
 
     fn read_number(&self, sheet: &[u32], caller: u32, slot: u32) -> u32 {

@@ -1,9 +1,10 @@
 //! One case on the program under test, on the second program and in the book.
 
+use std::fmt::Debug;
 use std::ops::Range;
 
 use second::book::Book;
-use second::{Answer, Edit};
+use second::Edit;
 
 use crate::calls::{Call, Case};
 use crate::layout;
@@ -31,8 +32,8 @@ impl Tally {
     }
 
     /// Counts an answer of set-up or edit.
-    pub fn count(&mut self, answer: Answer) {
-        if let Some(sum) = self.numbers.get_mut(answer.number as usize) {
+    pub fn count(&mut self, number: u32) {
+        if let Some(sum) = self.numbers.get_mut(number as usize) {
             *sum += 1;
         }
     }
@@ -103,7 +104,7 @@ impl<'a> Run<'a> {
         let book = self.book.set_up(self.tested.len(), clinics, measures, indents);
         same_answer(tested, book, "the book")?;
         self.book_holds |= second.number == 0;
-        self.tally.count(second);
+        self.tally.count(second.number);
         Ok(())
     }
 
@@ -115,7 +116,7 @@ impl<'a> Run<'a> {
             let book = self.book.edit(self.tested.len(), edit);
             same_answer(tested, book, "the book")?;
         }
-        self.tally.count(second);
+        self.tally.count(second.number);
         Ok(())
     }
 
@@ -146,13 +147,12 @@ impl<'a> Run<'a> {
     }
 }
 
-/// Whether two answers are the same; otherwise what to tell.
-pub fn same_answer(tested: Answer, other: Answer, whose: &str) -> Result<(), String> {
+/// Whether two answers of a call are the same; otherwise what to tell.
+pub fn same_answer<A: PartialEq + Debug>(tested: A, other: A, whose: &str) -> Result<(), String> {
     if tested == other {
         return Ok(());
     }
-    let (number, place) = (tested.number, tested.place);
-    Err(format!("it answers {number}, {place}; {whose}: {}, {}", other.number, other.place))
+    Err(format!("it answers {tested:?}; {whose}: {other:?}"))
 }
 
 fn same_number(tested: u32, other: u32, whose: &str) -> Result<(), String> {

@@ -38,7 +38,7 @@ pub fn compare(program: &dyn Program, scope: Scope) -> Result<Tally, Failure> {
             slot.set_up(measure, 0)?;
             for_each_pair([80, 120], |left, right| {
                 slot.replace(&[left, right].concat())?;
-                slot.replace(&[left, right, plain(19, 80)].concat()).map(drop)
+                slot.replace(&[left, right, plain(19, 80)].concat())
             })?;
         }
     }

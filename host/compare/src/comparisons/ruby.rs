@@ -2,7 +2,7 @@
 
 use crate::failure::Failure;
 use crate::program::{Program, Second};
-use crate::run::Tally;
+use crate::run::{same_answer, Tally};
 use crate::Scope;
 
 const TEST: &str = "ruby";
@@ -28,15 +28,13 @@ fn row(program: &dyn Program, base: u32, count: u32, size: u32, tally: &mut Tall
         let tested = program.ruby_place(base, count, size, k);
         let second = Second.ruby_place(base, count, size, k);
         tally.numbers[second.number as usize] += 1;
-        if tested != second {
-            return Err(Failure {
-                test: TEST,
-                seed: None,
-                difference: format!("it answers {tested:?}; the second program: {second:?}"),
-                calls: 1,
-                case: format!("ruby place: base advance {base}, ruby count {count}, size {size}, k {k}"),
-            });
-        }
+        same_answer(tested, second, "the second program").map_err(|difference| Failure {
+            test: TEST,
+            seed: None,
+            difference,
+            calls: 1,
+            case: format!("ruby place: base advance {base}, ruby count {count}, size {size}, k {k}"),
+        })?;
     }
     Ok(())
 }

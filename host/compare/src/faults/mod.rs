@@ -8,7 +8,7 @@ mod slots;
 
 use std::ops::Range;
 
-use second::{Answer, Edit, RubyPlace};
+use second::{Answer, Edit, EditAnswer, RubyPlace};
 
 use crate::layout::{LINES, SLOT};
 use crate::program::{Program, Second};
@@ -194,7 +194,7 @@ impl Program for Fault {
         answer
     }
 
-    fn edit(&self, sheet: &mut [u32], edit: Edit<'_>) -> Answer {
+    fn edit(&self, sheet: &mut [u32], edit: Edit<'_>) -> EditAnswer {
         edits::with_fault(*self, sheet, edit)
     }
 
