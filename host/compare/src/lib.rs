@@ -17,6 +17,7 @@ pub mod program;
 pub mod random;
 pub mod run;
 pub mod shrink;
+pub mod tally;
 
 /// How much of a comparison is run.
 #[derive(Debug, Clone, Copy, PartialEq, Eq)]
@@ -42,13 +43,13 @@ impl Scope {
 /// # Panics
 ///
 /// Where a difference is found; the message is the smallest case.
-pub fn full(name: &str, comparison: comparisons::Comparison) -> run::Tally {
+pub fn full(name: &str, comparison: comparisons::Comparison) -> tally::Tally {
     let start = std::time::Instant::now();
     match comparison(&program::UNDER_TEST, Scope::Full) {
         Ok(tally) => {
             let seconds = start.elapsed().as_secs_f64();
             println!("{name}: {} calls compared in {seconds:.1} s", tally.calls());
-            println!("{name}: set-up and edit by number {:?}, read {:?}", tally.numbers, tally.reads);
+            println!("{name}: {tally}");
             tally
         }
         Err(failure) => panic!("{failure}"),

@@ -7,7 +7,7 @@ use crate::calls::{Call, Case};
 use crate::failure::Failure;
 use crate::layout::SLOT;
 use crate::program::{Program, Second};
-use crate::run::Tally;
+use crate::tally::{Outcome, Tally};
 
 const CLINIC: u32 = 7;
 
@@ -45,7 +45,7 @@ impl<'a> OneSlot<'a> {
     pub fn set_up(&mut self, measure: u32, indent: u32) -> Result<(), Failure> {
         let tested = self.program.set_up(&mut self.tested, &[CLINIC], &[measure], &[indent]);
         let second = Second.set_up(&mut self.second, &[CLINIC], &[measure], &[indent]);
-        self.tally.count(second.number);
+        self.tally.count(Outcome::SetUp(second.number));
         self.compared(tested == second, || set_up_call((measure, indent)))?;
         self.setting = Some((measure, indent));
         self.records.clear();
@@ -58,7 +58,7 @@ impl<'a> OneSlot<'a> {
         let edit = Edit { caller: CLINIC, slot: 0, place: 0, deleted, inserted: records };
         let tested = self.program.edit(&mut self.tested, edit);
         let second = Second.edit(&mut self.second, edit);
-        self.tally.count(second.number);
+        self.tally.count(Outcome::Edit(second.number));
         self.compared(tested == second, || Call::replace(CLINIC, deleted, records))?;
         if second.number == 0 {
             self.records.clear();

@@ -9,41 +9,7 @@ use second::Edit;
 use crate::calls::{Call, Case};
 use crate::layout;
 use crate::program::{Program, Second};
-
-/// How often each number was answered.
-#[derive(Debug, Clone, Default)]
-pub struct Tally {
-    /// By set-up and edit.
-    pub numbers: [u64; 12],
-    /// By read.
-    pub reads: [u64; 5],
-}
-
-impl Tally {
-    /// All calls that were answered.
-    pub fn calls(&self) -> u64 {
-        self.numbers.iter().chain(&self.reads).sum()
-    }
-
-    /// Counts another tally in.
-    pub fn add(&mut self, other: &Tally) {
-        self.numbers.iter_mut().zip(other.numbers).for_each(|(sum, n)| *sum += n);
-        self.reads.iter_mut().zip(other.reads).for_each(|(sum, n)| *sum += n);
-    }
-
-    /// Counts an answer of set-up or edit.
-    pub fn count(&mut self, number: u32) {
-        if let Some(sum) = self.numbers.get_mut(number as usize) {
-            *sum += 1;
-        }
-    }
-
-    fn count_read(&mut self, number: u32) {
-        if let Some(sum) = self.reads.get_mut(number as usize) {
-            *sum += 1;
-        }
-    }
-}
+use crate::tally::{Outcome, Tally};
 
 /// A sheet on each side, and the book.
 pub struct Run<'a> {
@@ -104,7 +70,7 @@ impl<'a> Run<'a> {
         let book = self.book.set_up(self.tested.len(), clinics, measures, indents);
         same_answer(tested, book, "the book")?;
         self.book_holds |= second.number == 0;
-        self.tally.count(second.number);
+        self.tally.count(Outcome::SetUp(second.number));
         Ok(())
     }
 
@@ -116,7 +82,7 @@ impl<'a> Run<'a> {
             let book = self.book.edit(self.tested.len(), edit);
             same_answer(tested, book, "the book")?;
         }
-        self.tally.count(second.number);
+        self.tally.count(Outcome::Edit(second.number));
         Ok(())
     }
 
@@ -124,8 +90,9 @@ impl<'a> Run<'a> {
         let number = self.program.read_number(&self.tested, caller, slot);
         let part = self.program.read(&self.tested, caller, slot);
         let second = Second.read_number(&self.second, caller, slot);
+        let second_part = Second.read(&self.second, caller, slot);
         same_number(number, second, "the second program")?;
-        same_part(&part, &Second.read(&self.second, caller, slot), number)?;
+        same_part(&part, &second_part, number)?;
         if self.book_holds {
             let reading = self.book.read(self.tested.len(), caller, slot);
             same_number(number, reading.number, "the book")?;
@@ -133,7 +100,7 @@ impl<'a> Run<'a> {
                 return Err("read's words are not the book's".to_string());
             }
         }
-        self.tally.count_read(second);
+        self.tally.count(Outcome::of_read(second, &second_part));
         Ok(())
     }
 

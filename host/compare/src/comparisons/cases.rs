@@ -8,7 +8,8 @@ use crate::calls::{Call, Case};
 use crate::failure::Failure;
 use crate::layout::SLOT;
 use crate::program::Program;
-use crate::run::{run, same_answer, same_words, Tally};
+use crate::run::{run, same_answer, same_words};
+use crate::tally::Tally;
 use crate::Scope;
 
 const TEST: &str = "cases";

@@ -9,7 +9,7 @@ use crate::generate::{plain, usual_advance};
 use crate::layout::CLASSES;
 use crate::one_slot::OneSlot;
 use crate::program::Program;
-use crate::run::Tally;
+use crate::tally::Tally;
 use crate::Scope;
 
 const TEST: &str = "pairs";

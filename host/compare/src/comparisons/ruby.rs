@@ -2,7 +2,8 @@
 
 use crate::failure::Failure;
 use crate::program::{Program, Second};
-use crate::run::{same_answer, Tally};
+use crate::run::same_answer;
+use crate::tally::{Outcome, Tally};
 use crate::Scope;
 
 const TEST: &str = "ruby";
@@ -27,7 +28,7 @@ fn row(program: &dyn Program, base: u32, count: u32, size: u32, tally: &mut Tall
     for k in (0..=count.min(66)).chain([u32::MAX]) {
         let tested = program.ruby_place(base, count, size, k);
         let second = Second.ruby_place(base, count, size, k);
-        tally.numbers[second.number as usize] += 1;
+        tally.count(Outcome::RubyPlace(second.number));
         same_answer(tested, second, "the second program").map_err(|difference| Failure {
             test: TEST,
             seed: None,
