@@ -38,12 +38,19 @@ impl Scope {
     }
 }
 
-/// Runs a comparison in full against the program under test, and says what was compared.
+/// Says which program a comparison puts under test.
+pub fn heading(comparison: &str, program: &dyn program::Program) -> String {
+    format!("{comparison}: under test is {}, beside {}", program.name(), program::SECOND)
+}
+
+/// Runs a comparison in full against the program under test, and says which that is and what was
+/// compared.
 ///
 /// # Panics
 ///
 /// Where a difference is found; the message is the smallest case.
 pub fn full(name: &str, comparison: comparisons::Comparison) -> tally::Tally {
+    println!("{}", heading(name, &program::UNDER_TEST));
     let start = std::time::Instant::now();
     match comparison(&program::UNDER_TEST, Scope::Full) {
         Ok(tally) => {

@@ -4,8 +4,14 @@ use std::ops::Range;
 
 use second::{Answer, Edit, EditAnswer, RubyPlace};
 
+/// What the second program is called.
+pub const SECOND: &str = "the second program";
+
 /// A program that answers document 01's calls on raw words.
 pub trait Program {
+    /// What it is called where a comparison tells of it.
+    fn name(&self) -> String;
+
     /// Set-up.
     fn set_up(&self, sheet: &mut [u32], clinics: &[u32], measures: &[u32], indents: &[u32]) -> Answer;
 
@@ -27,6 +33,10 @@ pub trait Program {
 pub struct Second;
 
 impl Program for Second {
+    fn name(&self) -> String {
+        SECOND.to_string()
+    }
+
     fn set_up(&self, sheet: &mut [u32], clinics: &[u32], measures: &[u32], indents: &[u32]) -> Answer {
         second::set_up(sheet, clinics, measures, indents)
     }
@@ -55,6 +65,10 @@ pub struct Proved;
 
 #[cfg(feature = "proved")]
 impl Program for Proved {
+    fn name(&self) -> String {
+        "the proved library".to_string()
+    }
+
     fn set_up(&self, sheet: &mut [u32], clinics: &[u32], measures: &[u32], indents: &[u32]) -> Answer {
         let answer = gelumbrio::raw::set_up(sheet, clinics, measures, indents);
         Answer { number: answer.number, place: answer.place }

@@ -8,7 +8,7 @@ use second::Edit;
 
 use crate::calls::{Call, Case};
 use crate::layout;
-use crate::program::{Program, Second};
+use crate::program::{Program, Second, SECOND};
 use crate::tally::{Outcome, Tally};
 
 /// A sheet on each side, and the book.
@@ -55,7 +55,7 @@ impl<'a> Run<'a> {
             Call::Read { caller, slot } => self.read(*caller, *slot)?,
             Call::Damage { at, word } => self.damage(*at, *word),
         }
-        same_words(&self.tested, &self.second, "the second program")?;
+        same_words(&self.tested, &self.second, SECOND)?;
         if self.book_holds {
             same_words(&self.tested, &self.book.encode(), "the book")?;
         }
@@ -65,7 +65,7 @@ impl<'a> Run<'a> {
     fn set_up(&mut self, clinics: &[u32], measures: &[u32], indents: &[u32]) -> Result<(), String> {
         let tested = self.program.set_up(&mut self.tested, clinics, measures, indents);
         let second = Second.set_up(&mut self.second, clinics, measures, indents);
-        same_answer(tested, second, "the second program")?;
+        same_answer(tested, second, SECOND)?;
         // The answer of set-up depends on no word of the sheet, so the book always knows it.
         let book = self.book.set_up(self.tested.len(), clinics, measures, indents);
         same_answer(tested, book, "the book")?;
@@ -77,7 +77,7 @@ impl<'a> Run<'a> {
     fn edit(&mut self, edit: Edit<'_>) -> Result<(), String> {
         let tested = self.program.edit(&mut self.tested, edit);
         let second = Second.edit(&mut self.second, edit);
-        same_answer(tested, second, "the second program")?;
+        same_answer(tested, second, SECOND)?;
         if self.book_holds {
             let book = self.book.edit(self.tested.len(), edit);
             same_answer(tested, book, "the book")?;
@@ -91,7 +91,7 @@ impl<'a> Run<'a> {
         let part = self.program.read(&self.tested, caller, slot);
         let second = Second.read_number(&self.second, caller, slot);
         let second_part = Second.read(&self.second, caller, slot);
-        same_number(number, second, "the second program")?;
+        same_number(number, second, SECOND)?;
         same_part(&part, &second_part, number)?;
         if self.book_holds {
             let reading = self.book.read(self.tested.len(), caller, slot);
@@ -135,7 +135,7 @@ fn same_part(tested: &Range<usize>, second: &Range<usize>, number: u32) -> Resul
     if tested == second || (number == 0 && both_empty) {
         return Ok(());
     }
-    Err(format!("read hands back {tested:?}; the second program: {second:?}"))
+    Err(format!("read hands back {tested:?}; {SECOND}: {second:?}"))
 }
 
 /// Whether two sheets hold the same words; otherwise the first that differs.

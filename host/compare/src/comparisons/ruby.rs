@@ -1,7 +1,7 @@
 //! Ruby place: all of its limits, and a wide choice of groups.
 
 use crate::failure::Failure;
-use crate::program::{Program, Second};
+use crate::program::{Program, Second, SECOND};
 use crate::run::same_answer;
 use crate::tally::{Outcome, Tally};
 use crate::Scope;
@@ -29,7 +29,8 @@ fn row(program: &dyn Program, base: u32, count: u32, size: u32, tally: &mut Tall
         let tested = program.ruby_place(base, count, size, k);
         let second = Second.ruby_place(base, count, size, k);
         tally.count(Outcome::RubyPlace(second.number));
-        same_answer(tested, second, "the second program").map_err(|difference| Failure {
+        same_answer(tested, second, SECOND).map_err(|difference| Failure {
+            program: program.name(),
             test: TEST,
             seed: None,
             difference,
