@@ -5,6 +5,7 @@
  *   256 records of 6 words: code point, class, size, advance, group, ruby count;
  *   256 places of 2 words: x, line number;
  *   256 lines of 3 words: first record, end x, kind (1 flush, 2 short, 3 final).
+ * A program should lend a sheet of at most 5 slots. That is advice: up to 64 are taken.
  *
  * Every call takes any words, numbers and lengths, and ends. A refused call changes no word of the sheet. Each slice
  * passes as a pointer, then its length in words. With length 0 nothing is read through the pointer, which must still
