@@ -5,6 +5,7 @@
  *   256 records of 6 words: code point, class, size, advance, group, ruby count;
  *   256 places of 2 words: x, line number;
  *   256 lines of 3 words: first record, end x, kind (1 flush, 2 short, 3 final).
+ * A program should lend a sheet of at most 5 slots. That is advice: up to 64 are taken.
  *
  * Every call takes any words, numbers and lengths, and ends. A refused call changes no word of the sheet. Each slice
  * passes as a pointer, then its length in words. With length 0 nothing is read through the pointer, which must still
@@ -42,8 +43,10 @@ typedef struct SlotNumber { uint32_t number; } SlotNumber; /* from 0 */
  *   9  a group rule is broken                                         the first such record
  *  10  no breaking exists                                             the first record of the first too wide run
  *  11  set-up: a clinic, measure or indent out of limits              the first such slot
- * Read's number is 0, 1, 2 or 3, then 4 where the stored line count exceeds 256. Ruby place's is 0 or 8. */
+ * Read's number is 0, 1, 2 or 3, then 4 where the stored line count exceeds 256. Ruby place's is 0 or 8.
+ * Edit's answer is a type of its own, apart from set-up's, so that it can tell more than a number and a place. */
 typedef struct Answer { uint32_t number, place; } Answer;
+typedef struct EditAnswer { uint32_t number, place; } EditAnswer;
 typedef struct RubyPlace { uint32_t number, offset; } RubyPlace;
 
 /* A part of the sheet: the words from start up to end; 0, 0 where the read is refused. */
@@ -55,8 +58,8 @@ Answer gelumbrio_set_up(uint32_t *sheet, size_t sheet_length, const uint32_t *cl
                         size_t indents_length);
 
 /* Takes `deleted` records out at `place`, puts the inserted ones in there, and composes the slot anew. */
-Answer gelumbrio_edit(uint32_t *sheet, size_t sheet_length, Clinic caller, SlotNumber slot, uint32_t place,
-                      uint32_t deleted, const uint32_t *inserted, size_t inserted_length);
+EditAnswer gelumbrio_edit(uint32_t *sheet, size_t sheet_length, Clinic caller, SlotNumber slot, uint32_t place,
+                          uint32_t deleted, const uint32_t *inserted, size_t inserted_length);
 
 /* The number of a read, so that an empty slot and a refusal can be told apart. */
 uint32_t gelumbrio_read_number(const uint32_t *sheet, size_t sheet_length, Clinic caller, SlotNumber slot);

@@ -14,6 +14,8 @@ pub const NOT_SEEN_AGAIN: &str = "the difference did not show again";
 /// A difference, the smallest case found that shows one, and how to see it again.
 #[derive(Debug, Clone)]
 pub struct Failure {
+    /// What the program under test is called.
+    pub program: String,
     /// The test that found it.
     pub test: &'static str,
     /// The seed of the case, if it is a random one.
@@ -32,6 +34,7 @@ impl Failure {
         let case = smallest(case, &|case| run(program, case).is_err());
         let difference = run(program, &case).err();
         Failure {
+            program: program.name(),
             test,
             seed,
             difference: difference.unwrap_or_else(|| NOT_SEEN_AGAIN.to_string()),
@@ -39,10 +42,17 @@ impl Failure {
             case: case.to_string(),
         }
     }
+
+    /// Which program failed where, and how.
+    pub fn in_one_line(&self) -> String {
+        let Failure { program, test, calls, difference, .. } = self;
+        format!("{program}: found by {test}, {calls} calls: {difference}")
+    }
 }
 
 impl fmt::Display for Failure {
     fn fmt(&self, f: &mut fmt::Formatter<'_>) -> fmt::Result {
+        writeln!(f, "under test: {}", self.program)?;
         writeln!(f, "{}", self.difference)?;
         writeln!(f, "smallest case found: {}", self.case)?;
         write!(f, "to run it again: cd host && ")?;

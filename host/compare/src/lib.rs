@@ -17,6 +17,7 @@ pub mod program;
 pub mod random;
 pub mod run;
 pub mod shrink;
+pub mod tally;
 
 /// How much of a comparison is run.
 #[derive(Debug, Clone, Copy, PartialEq, Eq)]
@@ -37,18 +38,25 @@ impl Scope {
     }
 }
 
-/// Runs a comparison in full against the program under test, and says what was compared.
+/// Says which program a comparison puts under test.
+pub fn heading(comparison: &str, program: &dyn program::Program) -> String {
+    format!("{comparison}: under test is {}, beside {}", program.name(), program::SECOND)
+}
+
+/// Runs a comparison in full against the program under test, and says which that is and what was
+/// compared.
 ///
 /// # Panics
 ///
 /// Where a difference is found; the message is the smallest case.
-pub fn full(name: &str, comparison: comparisons::Comparison) -> run::Tally {
+pub fn full(name: &str, comparison: comparisons::Comparison) -> tally::Tally {
+    println!("{}", heading(name, &program::UNDER_TEST));
     let start = std::time::Instant::now();
     match comparison(&program::UNDER_TEST, Scope::Full) {
         Ok(tally) => {
             let seconds = start.elapsed().as_secs_f64();
             println!("{name}: {} calls compared in {seconds:.1} s", tally.calls());
-            println!("{name}: set-up and edit by number {:?}, read {:?}", tally.numbers, tally.reads);
+            println!("{name}: {tally}");
             tally
         }
         Err(failure) => panic!("{failure}"),

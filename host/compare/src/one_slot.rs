@@ -1,13 +1,13 @@
 //! One slot on each side, whose whole text is replaced again and again: the quick way to compare
 //! many paragraphs. What the last text left behind is compared too.
 
-use second::{Answer, Edit};
+use second::Edit;
 
 use crate::calls::{Call, Case};
 use crate::failure::Failure;
 use crate::layout::SLOT;
 use crate::program::{Program, Second};
-use crate::run::Tally;
+use crate::tally::{Outcome, Tally};
 
 const CLINIC: u32 = 7;
 
@@ -45,30 +45,31 @@ impl<'a> OneSlot<'a> {
     pub fn set_up(&mut self, measure: u32, indent: u32) -> Result<(), Failure> {
         let tested = self.program.set_up(&mut self.tested, &[CLINIC], &[measure], &[indent]);
         let second = Second.set_up(&mut self.second, &[CLINIC], &[measure], &[indent]);
-        self.compared(tested, second, || set_up_call((measure, indent)))?;
+        self.tally.count(Outcome::SetUp(second.number));
+        self.compared(tested == second, || set_up_call((measure, indent)))?;
         self.setting = Some((measure, indent));
         self.records.clear();
         Ok(())
     }
 
     /// Puts these records in place of all others.
-    pub fn replace(&mut self, records: &[u32]) -> Result<Answer, Failure> {
+    pub fn replace(&mut self, records: &[u32]) -> Result<(), Failure> {
         let deleted = (self.records.len() / 6) as u32;
         let edit = Edit { caller: CLINIC, slot: 0, place: 0, deleted, inserted: records };
         let tested = self.program.edit(&mut self.tested, edit);
         let second = Second.edit(&mut self.second, edit);
-        self.compared(tested, second, || Call::replace(CLINIC, deleted, records))?;
+        self.tally.count(Outcome::Edit(second.number));
+        self.compared(tested == second, || Call::replace(CLINIC, deleted, records))?;
         if second.number == 0 {
             self.records.clear();
             self.records.extend_from_slice(records);
         }
-        Ok(second)
+        Ok(())
     }
 
-    /// Counts the answer; a failure where answers or words differ after this call.
-    fn compared(&mut self, tested: Answer, second: Answer, call: impl Fn() -> Call) -> Result<(), Failure> {
-        self.tally.count(second);
-        if tested == second && self.tested == self.second {
+    /// A failure where answers or words differ after this call.
+    fn compared(&self, same_answer: bool, call: impl Fn() -> Call) -> Result<(), Failure> {
+        if same_answer && self.tested == self.second {
             return Ok(());
         }
         // The last set-up and the text give a slot the words that the call met.

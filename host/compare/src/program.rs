@@ -2,15 +2,21 @@
 
 use std::ops::Range;
 
-use second::{Answer, Edit, RubyPlace};
+use second::{Answer, Edit, EditAnswer, RubyPlace};
+
+/// What the second program is called.
+pub const SECOND: &str = "the second program";
 
 /// A program that answers document 01's calls on raw words.
 pub trait Program {
+    /// What it is called where a comparison tells of it.
+    fn name(&self) -> String;
+
     /// Set-up.
     fn set_up(&self, sheet: &mut [u32], clinics: &[u32], measures: &[u32], indents: &[u32]) -> Answer;
 
     /// Edit.
-    fn edit(&self, sheet: &mut [u32], edit: Edit<'_>) -> Answer;
+    fn edit(&self, sheet: &mut [u32], edit: Edit<'_>) -> EditAnswer;
 
     /// Read's number.
     fn read_number(&self, sheet: &[u32], caller: u32, slot: u32) -> u32;
@@ -27,11 +33,15 @@ pub trait Program {
 pub struct Second;
 
 impl Program for Second {
+    fn name(&self) -> String {
+        SECOND.to_string()
+    }
+
     fn set_up(&self, sheet: &mut [u32], clinics: &[u32], measures: &[u32], indents: &[u32]) -> Answer {
         second::set_up(sheet, clinics, measures, indents)
     }
 
-    fn edit(&self, sheet: &mut [u32], edit: Edit<'_>) -> Answer {
+    fn edit(&self, sheet: &mut [u32], edit: Edit<'_>) -> EditAnswer {
         second::edit(sheet, edit)
     }
 
@@ -55,15 +65,19 @@ pub struct Proved;
 
 #[cfg(feature = "proved")]
 impl Program for Proved {
+    fn name(&self) -> String {
+        "the proved library".to_string()
+    }
+
     fn set_up(&self, sheet: &mut [u32], clinics: &[u32], measures: &[u32], indents: &[u32]) -> Answer {
         let answer = gelumbrio::raw::set_up(sheet, clinics, measures, indents);
         Answer { number: answer.number, place: answer.place }
     }
 
-    fn edit(&self, sheet: &mut [u32], edit: Edit<'_>) -> Answer {
+    fn edit(&self, sheet: &mut [u32], edit: Edit<'_>) -> EditAnswer {
         let (caller, slot) = (gelumbrio::Clinic(edit.caller), gelumbrio::SlotNumber(edit.slot));
         let answer = gelumbrio::raw::edit(sheet, caller, slot, edit.place, edit.deleted, edit.inserted);
-        Answer { number: answer.number, place: answer.place }
+        EditAnswer { number: answer.number, place: answer.place }
     }
 
     fn read_number(&self, sheet: &[u32], caller: u32, slot: u32) -> u32 {

@@ -1,48 +1,15 @@
 //! One case on the program under test, on the second program and in the book.
 
+use std::fmt::Debug;
 use std::ops::Range;
 
 use second::book::Book;
-use second::{Answer, Edit};
+use second::Edit;
 
 use crate::calls::{Call, Case};
 use crate::layout;
-use crate::program::{Program, Second};
-
-/// How often each number was answered.
-#[derive(Debug, Clone, Default)]
-pub struct Tally {
-    /// By set-up and edit.
-    pub numbers: [u64; 12],
-    /// By read.
-    pub reads: [u64; 5],
-}
-
-impl Tally {
-    /// All calls that were answered.
-    pub fn calls(&self) -> u64 {
-        self.numbers.iter().chain(&self.reads).sum()
-    }
-
-    /// Counts another tally in.
-    pub fn add(&mut self, other: &Tally) {
-        self.numbers.iter_mut().zip(other.numbers).for_each(|(sum, n)| *sum += n);
-        self.reads.iter_mut().zip(other.reads).for_each(|(sum, n)| *sum += n);
-    }
-
-    /// Counts an answer of set-up or edit.
-    pub fn count(&mut self, answer: Answer) {
-        if let Some(sum) = self.numbers.get_mut(answer.number as usize) {
-            *sum += 1;
-        }
-    }
-
-    fn count_read(&mut self, number: u32) {
-        if let Some(sum) = self.reads.get_mut(number as usize) {
-            *sum += 1;
-        }
-    }
-}
+use crate::program::{Program, Second, SECOND};
+use crate::tally::{Outcome, Tally};
 
 /// A sheet on each side, and the book.
 pub struct Run<'a> {
@@ -88,7 +55,7 @@ impl<'a> Run<'a> {
             Call::Read { caller, slot } => self.read(*caller, *slot)?,
             Call::Damage { at, word } => self.damage(*at, *word),
         }
-        same_words(&self.tested, &self.second, "the second program")?;
+        same_words(&self.tested, &self.second, SECOND)?;
         if self.book_holds {
             same_words(&self.tested, &self.book.encode(), "the book")?;
         }
@@ -98,24 +65,24 @@ impl<'a> Run<'a> {
     fn set_up(&mut self, clinics: &[u32], measures: &[u32], indents: &[u32]) -> Result<(), String> {
         let tested = self.program.set_up(&mut self.tested, clinics, measures, indents);
         let second = Second.set_up(&mut self.second, clinics, measures, indents);
-        same_answer(tested, second, "the second program")?;
+        same_answer(tested, second, SECOND)?;
         // The answer of set-up depends on no word of the sheet, so the book always knows it.
         let book = self.book.set_up(self.tested.len(), clinics, measures, indents);
         same_answer(tested, book, "the book")?;
         self.book_holds |= second.number == 0;
-        self.tally.count(second);
+        self.tally.count(Outcome::SetUp(second.number));
         Ok(())
     }
 
     fn edit(&mut self, edit: Edit<'_>) -> Result<(), String> {
         let tested = self.program.edit(&mut self.tested, edit);
         let second = Second.edit(&mut self.second, edit);
-        same_answer(tested, second, "the second program")?;
+        same_answer(tested, second, SECOND)?;
         if self.book_holds {
             let book = self.book.edit(self.tested.len(), edit);
             same_answer(tested, book, "the book")?;
         }
-        self.tally.count(second);
+        self.tally.count(Outcome::Edit(second.number));
         Ok(())
     }
 
@@ -123,8 +90,9 @@ impl<'a> Run<'a> {
         let number = self.program.read_number(&self.tested, caller, slot);
         let part = self.program.read(&self.tested, caller, slot);
         let second = Second.read_number(&self.second, caller, slot);
-        same_number(number, second, "the second program")?;
-        same_part(&part, &Second.read(&self.second, caller, slot), number)?;
+        let second_part = Second.read(&self.second, caller, slot);
+        same_number(number, second, SECOND)?;
+        same_part(&part, &second_part, number)?;
         if self.book_holds {
             let reading = self.book.read(self.tested.len(), caller, slot);
             same_number(number, reading.number, "the book")?;
@@ -132,7 +100,7 @@ impl<'a> Run<'a> {
                 return Err("read's words are not the book's".to_string());
             }
         }
-        self.tally.count_read(second);
+        self.tally.count(Outcome::of_read(second, &second_part));
         Ok(())
     }
 
@@ -146,13 +114,12 @@ impl<'a> Run<'a> {
     }
 }
 
-/// Whether two answers are the same; otherwise what to tell.
-pub fn same_answer(tested: Answer, other: Answer, whose: &str) -> Result<(), String> {
+/// Whether two answers of a call are the same; otherwise what to tell.
+pub fn same_answer<A: PartialEq + Debug>(tested: A, other: A, whose: &str) -> Result<(), String> {
     if tested == other {
         return Ok(());
     }
-    let (number, place) = (tested.number, tested.place);
-    Err(format!("it answers {number}, {place}; {whose}: {}, {}", other.number, other.place))
+    Err(format!("it answers {tested:?}; {whose}: {other:?}"))
 }
 
 fn same_number(tested: u32, other: u32, whose: &str) -> Result<(), String> {
@@ -168,7 +135,7 @@ fn same_part(tested: &Range<usize>, second: &Range<usize>, number: u32) -> Resul
     if tested == second || (number == 0 && both_empty) {
         return Ok(());
     }
-    Err(format!("read hands back {tested:?}; the second program: {second:?}"))
+    Err(format!("read hands back {tested:?}; {SECOND}: {second:?}"))
 }
 
 /// Whether two sheets hold the same words; otherwise the first that differs.

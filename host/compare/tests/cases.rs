@@ -1,6 +1,9 @@
 //! See `comparisons::cases`.
 
+use compare::tally::Outcome::{Edit, ReadLines, ReadNoLines, SetUp};
+
 #[test]
 fn cases() {
-    compare::full("cases", compare::comparisons::cases::compare);
+    let tally = compare::full("cases", compare::comparisons::cases::compare);
+    tally.assert_seen(1, [SetUp(0), Edit(0), Edit(10), ReadLines, ReadNoLines]);
 }

@@ -4,8 +4,8 @@ use compare::comparisons::{pairs, paragraphs, sequences, short, Comparison, ALL}
 use compare::failure::{Failure, NOT_SEEN_AGAIN};
 use compare::faults::{Fault, CLASSES_AS, SINGLE};
 use compare::layout::CLASSES;
-use compare::program::Second;
-use compare::Scope;
+use compare::program::{Second, SECOND, UNDER_TEST};
+use compare::{heading, Scope};
 
 /// The first failure of these comparisons, whose case shows the difference again.
 fn find(fault: Fault, comparisons: &[Comparison]) -> Failure {
@@ -19,7 +19,7 @@ fn find(fault: Fault, comparisons: &[Comparison]) -> Failure {
 fn single_faults() {
     for fault in SINGLE {
         let failure = find(fault, &ALL);
-        println!("{fault:?}: found by {}, {} calls: {}", failure.test, failure.calls, failure.difference);
+        println!("{}", failure.in_one_line());
         assert!(failure.calls <= 6, "{fault:?}: {failure}");
     }
 }
@@ -28,7 +28,7 @@ fn single_faults() {
 fn a_class_set_as_another() {
     for fault in CLASSES_AS {
         let failure = find(fault, &[pairs::compare]);
-        println!("{fault:?}: {} calls: {}", failure.calls, failure.difference);
+        println!("{}", failure.in_one_line());
         assert!(failure.calls <= 3, "{fault:?}: {failure}");
     }
 }
@@ -39,6 +39,7 @@ fn every_pair_of_classes_is_looked_at() {
         for right in CLASSES {
             find(Fault::PairShifted(left, right), &[pairs::compare]);
         }
+        println!("{SECOND} with the faults PairShifted({left}, each class): found by pairs");
     }
 }
 
@@ -47,6 +48,7 @@ fn a_failure_is_told_with_its_seed() {
     let told = find(Fault::OldLines, &[sequences::compare]).to_string();
     println!("{told}");
     assert!(told.contains("cd host && GELUMBRIO_SEED=") && told.contains("--test sequences"));
+    assert!(told.contains("under test: the second program with the fault OldLines\n"));
     assert!(told.contains("smallest case found"));
 }
 
@@ -62,7 +64,16 @@ fn a_failing_set_up_is_told_with_the_text_before_it() {
 
 #[test]
 fn the_second_program_agrees_with_itself() {
+    println!("{}", heading("all, in brief", &Second));
     for comparison in ALL {
         assert!(comparison(&Second, Scope::Brief).is_ok());
     }
+}
+
+/// A comparison of the second program with itself must not pass for one of the proved library.
+#[test]
+fn a_comparison_names_the_program_under_test() {
+    let tested = if cfg!(feature = "proved") { "the proved library" } else { "the second program" };
+    let expected = format!("limits: under test is {tested}, beside the second program");
+    assert_eq!(heading("limits", &UNDER_TEST), expected);
 }

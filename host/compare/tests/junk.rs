@@ -1,12 +1,14 @@
 //! See `comparisons::junk`.
 
 use compare::random::one_seed_is_picked;
+use compare::tally::Outcome::{Edit, ReadLines, ReadNoLines, ReadRefused};
 
 #[test]
 fn junk() {
     let tally = compare::full("junk", compare::comparisons::junk::compare);
     if !one_seed_is_picked() {
-        assert!([0, 2, 3, 4, 5].iter().all(|&number| tally.numbers[number] > 100));
-        assert!([0, 3, 4].iter().all(|&number| tally.reads[number] > 100));
+        tally.assert_seen(100, [0, 2, 3, 4, 5].map(Edit));
+        // The reads name a slot of a sheet that is one.
+        tally.assert_seen(100, [ReadLines, ReadNoLines, ReadRefused(3), ReadRefused(4)]);
     }
 }

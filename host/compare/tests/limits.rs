@@ -1,9 +1,11 @@
 //! See `comparisons::limits`.
 
+use compare::tally::Outcome::{self, Edit, SetUp};
+
 #[test]
 fn limits() {
     let tally = compare::full("limits", compare::comparisons::limits::compare);
-    for number in [0, 1, 2, 3, 5, 6, 7, 8, 9, 10, 11] {
-        assert!(tally.numbers[number] > 0, "no answer {number} among them");
-    }
+    tally.assert_seen(1, [0, 1, 11].map(SetUp));
+    tally.assert_seen(1, (0..=10).map(Edit));
+    tally.assert_seen(1, Outcome::READS);
 }

@@ -1,6 +1,9 @@
 //! See `comparisons::pairs`.
 
+use compare::tally::Outcome::Edit;
+
 #[test]
 fn pairs() {
-    compare::full("pairs", compare::comparisons::pairs::compare);
+    let tally = compare::full("pairs", compare::comparisons::pairs::compare);
+    tally.assert_seen(100, [0, 10].map(Edit));
 }

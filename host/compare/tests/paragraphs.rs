@@ -1,11 +1,12 @@
 //! See `comparisons::paragraphs`.
 
 use compare::random::one_seed_is_picked;
+use compare::tally::Outcome::Edit;
 
 #[test]
 fn paragraphs() {
     let tally = compare::full("paragraphs", compare::comparisons::paragraphs::compare);
     if !one_seed_is_picked() {
-        assert!([0, 8, 9, 10].iter().all(|&number| tally.numbers[number] > 100));
+        tally.assert_seen(100, [0, 8, 9, 10].map(Edit));
     }
 }

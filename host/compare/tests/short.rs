@@ -1,6 +1,9 @@
 //! See `comparisons::short`.
 
+use compare::tally::Outcome::Edit;
+
 #[test]
 fn short() {
-    compare::full("short", compare::comparisons::short::compare);
+    let tally = compare::full("short", compare::comparisons::short::compare);
+    tally.assert_seen(100, [0, 9, 10].map(Edit));
 }

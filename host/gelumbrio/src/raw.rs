@@ -17,13 +17,23 @@ pub struct Clinic(pub u32);
 #[derive(Debug, Clone, Copy, PartialEq, Eq, PartialOrd, Ord, Hash)]
 pub struct SlotNumber(pub u32);
 
-/// The answer of set-up and edit.
+/// The answer of set-up.
 #[repr(C)]
 #[derive(Debug, Clone, Copy, PartialEq, Eq)]
 pub struct Answer {
     /// 0, or the refusal's number.
     pub number: u32,
-    /// The line count (set-up: P) where the number is 0, otherwise the refusal's place.
+    /// P where the number is 0, otherwise the refusal's place.
+    pub place: u32,
+}
+
+/// The answer of edit, apart from set-up's so that it can tell more than a number and a place.
+#[repr(C)]
+#[derive(Debug, Clone, Copy, PartialEq, Eq)]
+pub struct EditAnswer {
+    /// 0, or the refusal's number.
+    pub number: u32,
+    /// The line count where the number is 0, otherwise the refusal's place.
     pub place: u32,
 }
 
@@ -65,7 +75,7 @@ extern "C" {
         deleted: u32,
         inserted: *const u32,
         inserted_length: usize,
-    ) -> Answer;
+    ) -> EditAnswer;
 
     fn gelumbrio_read_number(sheet: *const u32, sheet_length: usize, caller: Clinic, slot: SlotNumber)
         -> u32;
@@ -101,7 +111,7 @@ pub fn edit(
     place: u32,
     deleted: u32,
     inserted: &[u32],
-) -> Answer {
+) -> EditAnswer {
     // SAFETY: both pointers and lengths are of live slices, and `sheet`, being borrowed mutably,
     // does not overlap `inserted`. The library is proved to stay inside them and keeps no pointer.
     unsafe {

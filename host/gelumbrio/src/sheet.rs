@@ -1,6 +1,6 @@
 //! A sheet that owns its words (document 01, "The sheet").
 
-use crate::raw::{self, Answer, Clinic, SlotNumber};
+use crate::raw::{self, Clinic, SlotNumber};
 use crate::refusal::Refusal;
 
 /// The most slots a sheet may have.
@@ -92,7 +92,8 @@ impl Sheet {
     /// for each slot.
     pub fn set_up(&mut self, clinics: &[Clinic], measures: &[u32], indents: &[u32]) -> Result<(), Refusal> {
         let clinics: Vec<u32> = clinics.iter().map(|clinic| clinic.0).collect();
-        accepted(raw::set_up(&mut self.words, &clinics, measures, indents)).map(|_slots| ())
+        let answer = raw::set_up(&mut self.words, &clinics, measures, indents);
+        accepted(answer.number, answer.place).map(|_slots| ())
     }
 
     /// Deletes records at a place, inserts others there and composes the slot anew. Place and
@@ -105,7 +106,8 @@ impl Sheet {
         deleted: u32,
         inserted: &[u32],
     ) -> Result<u32, Refusal> {
-        accepted(raw::edit(&mut self.words, caller, slot, place, deleted, inserted))
+        let answer = raw::edit(&mut self.words, caller, slot, place, deleted, inserted);
+        accepted(answer.number, answer.place)
     }
 
     /// The slot's used line words, three for each line: first record, end x and kind.
@@ -163,10 +165,10 @@ impl Kind {
     }
 }
 
-/// The place of an accepted call.
-fn accepted(answer: Answer) -> Result<u32, Refusal> {
-    match Refusal::new(answer.number, answer.place) {
+/// The place of a call with this answer, where it is accepted.
+fn accepted(number: u32, place: u32) -> Result<u32, Refusal> {
+    match Refusal::new(number, place) {
         Some(refusal) => Err(refusal),
-        None => Ok(answer.place),
+        None => Ok(place),
     }
 }

@@ -1,24 +1,51 @@
 //! What the calls answer (document 01, "Refusal numbers, in the order they are checked").
 
-/// The answer of set-up and edit: 0 and a count, or a refusal's number and place.
+/// The answer of set-up: 0 and P, or a refusal's number and place.
 #[derive(Debug, Clone, Copy, PartialEq, Eq)]
 pub struct Answer {
     /// 0, or the refusal's number.
     pub number: u32,
-    /// The line count (set-up: P) where the number is 0, otherwise the refusal's place.
+    /// P where the number is 0, otherwise the refusal's place.
     pub place: u32,
 }
 
-impl Answer {
-    /// Success: 0 and the line count of an edit, or P of a set-up.
-    pub fn accepted(count: usize) -> Answer {
-        Answer { number: 0, place: count as u32 }
-    }
+/// The answer of edit: 0 and the line count, or a refusal's number and place. It is apart from
+/// set-up's, so that an edit can tell more than these two.
+#[derive(Debug, Clone, Copy, PartialEq, Eq)]
+pub struct EditAnswer {
+    /// 0, or the refusal's number.
+    pub number: u32,
+    /// The line count where the number is 0, otherwise the refusal's place.
+    pub place: u32,
 }
 
 impl From<Result<usize, Refusal>> for Answer {
+    /// From P, or why set-up is refused.
     fn from(outcome: Result<usize, Refusal>) -> Answer {
-        outcome.map_or_else(Answer::from, Answer::accepted)
+        let (number, place) = number_and_place(outcome);
+        Answer { number, place }
+    }
+}
+
+impl From<Result<usize, Refusal>> for EditAnswer {
+    /// From the line count, or why the edit is refused.
+    fn from(outcome: Result<usize, Refusal>) -> EditAnswer {
+        let (number, place) = number_and_place(outcome);
+        EditAnswer { number, place }
+    }
+}
+
+impl From<Refusal> for EditAnswer {
+    fn from(refusal: Refusal) -> EditAnswer {
+        EditAnswer::from(Err(refusal))
+    }
+}
+
+/// The row of document 01's table, where 0 has the count as its place.
+fn number_and_place(outcome: Result<usize, Refusal>) -> (u32, u32) {
+    match outcome {
+        Ok(count) => (0, count as u32),
+        Err(refusal) => (refusal.number(), refusal.place()),
     }
 }
 
@@ -86,11 +113,5 @@ impl Refusal {
             | Refusal::Limits(at) => at as u32,
             _ => 0,
         }
-    }
-}
-
-impl From<Refusal> for Answer {
-    fn from(refusal: Refusal) -> Answer {
-        Answer { number: refusal.number(), place: refusal.place() }
     }
 }

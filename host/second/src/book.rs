@@ -4,7 +4,7 @@
 //! Before the first accepted set-up it has no slots, while the sheet may hold any words: what it
 //! then answers to an edit or a read says nothing of the sheet, except for numbers 1 and 2.
 
-use crate::answer::{Answer, Refusal};
+use crate::answer::{Answer, EditAnswer, Refusal};
 use crate::breaking::Setting;
 use crate::compose::compose;
 use crate::records::{spliced, Record};
@@ -77,7 +77,7 @@ impl Book {
     }
 
     /// Edit.
-    pub fn edit(&mut self, sheet_length: usize, edit: Edit) -> Answer {
+    pub fn edit(&mut self, sheet_length: usize, edit: Edit) -> EditAnswer {
         let outcome = self.callers_slot(sheet_length, edit.caller, edit.slot).and_then(|slot| {
             let entry = &mut self.entries[slot];
             let records = spliced(&entry.records, edit.place, edit.deleted, edit.inserted)?;
@@ -85,7 +85,7 @@ impl Book {
             entry.records = records;
             Ok(composition.lines.len())
         });
-        Answer::from(outcome)
+        EditAnswer::from(outcome)
     }
 
     /// Read and its companion, which together are one read.

@@ -1,7 +1,7 @@
 //! The cases that document 01 composes by hand (document 01, "Composed by hand"), for the tests of
 //! this program and of any other.
 
-use crate::answer::{Answer, Refusal};
+use crate::answer::{EditAnswer, Refusal};
 
 type Words = [u32; 6];
 
@@ -69,13 +69,11 @@ impl Case {
 
     /// What the edit answers that inserts the records into a fresh slot of this clinic, and every
     /// word of the slot after it. The layout is written out here, apart from the program's.
-    pub fn expected(&self, clinic: u32) -> (Answer, Vec<u32>) {
+    pub fn expected(&self, clinic: u32) -> (EditAnswer, Vec<u32>) {
         let mut slot = vec![0; 2_824];
         slot[..3].copy_from_slice(&[clinic, self.measure, 0]);
-        let lines = match self.lines {
-            Err(place) => return (Refusal::NoBreaking(place).into(), slot),
-            Ok(lines) => lines,
-        };
+        let answer = EditAnswer::from(self.lines.map(<[Line]>::len).map_err(Refusal::NoBreaking));
+        let Ok(lines) = self.lines else { return (answer, slot) };
         slot[3] = self.records.len() as u32;
         slot[4] = lines.len() as u32;
         slot[8..][..6 * self.records.len()].copy_from_slice(&self.records.concat());
@@ -87,6 +85,6 @@ impl Case {
                 first += 1;
             }
         }
-        (Answer::accepted(lines.len()), slot)
+        (answer, slot)
     }
 }

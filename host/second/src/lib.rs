@@ -33,6 +33,6 @@ pub mod sheet;
 pub mod spacing;
 pub mod units;
 
-pub use answer::{Answer, RubyPlace};
+pub use answer::{Answer, EditAnswer, RubyPlace};
 pub use sheet::{edit, read, read_number, set_up, slot_words, Edit};
 pub use units::ruby_place;

@@ -3,7 +3,7 @@
 
 use std::ops::Range;
 
-use crate::answer::{Answer, Refusal};
+use crate::answer::{Answer, EditAnswer, Refusal};
 use crate::breaking::Setting;
 use crate::compose::{check, compose, Composition};
 use crate::records::{decode_all, spliced, Record, MAX_RECORDS, RECORD_WORDS};
@@ -73,8 +73,8 @@ pub fn set_up(sheet: &mut [u32], clinics: &[u32], measures: &[u32], indents: &[u
 }
 
 /// Edit: deletes records at a place, inserts others there and composes the slot anew.
-pub fn edit(sheet: &mut [u32], edit: Edit) -> Answer {
-    Answer::from(try_edit(sheet, edit))
+pub fn edit(sheet: &mut [u32], edit: Edit) -> EditAnswer {
+    EditAnswer::from(try_edit(sheet, edit))
 }
 
 /// Read's number: 0, or why `read` hands back nothing.
@@ -90,7 +90,7 @@ pub fn read(sheet: &[u32], caller: u32, slot: u32) -> Range<usize> {
 /// The words of a slot that holds these records, composed from them alone. It is refused as the
 /// edit of a fresh slot is that inserts them all: with 8, 9 or 10, or with 4, 6 or 7 where no such
 /// edit or slot can be.
-pub fn slot_words(clinic: u32, measure: u32, indent: u32, records: &[u32]) -> Result<Vec<u32>, Answer> {
+pub fn slot_words(clinic: u32, measure: u32, indent: u32, records: &[u32]) -> Result<Vec<u32>, EditAnswer> {
     let setting = Setting { measure, indent };
     let mut slot = fresh_slot(clinic, setting);
     if !setting.in_limits() {

@@ -14,8 +14,10 @@ struct Run {
     random: Random,
     sheet: Vec<u32>,
     book: Book,
-    /// How often each number was answered.
+    /// How often set-up and edit answered each number.
     numbers: [u32; 12],
+    /// How often read did.
+    reads: [u32; 5],
 }
 
 impl Run {
@@ -23,7 +25,7 @@ impl Run {
         let mut random = Random::new(seed);
         let slots = 1 + random.below(5) as usize;
         let sheet = (0..slots * SLOT_WORDS).map(|_| random.next() as u32).collect();
-        Run { random, sheet, book: Book::new(), numbers: [0; 12] }
+        Run { random, sheet, book: Book::new(), numbers: [0; 12], reads: [0; 5] }
     }
 
     fn slots(&self) -> usize {
@@ -82,6 +84,7 @@ impl Run {
         let reading = self.book.read(self.sheet.len(), caller, slot);
         assert_eq!(read_number(&self.sheet, caller, slot), reading.number);
         assert_eq!(self.sheet[read(&self.sheet, caller, slot)], reading.words);
+        self.reads[reading.number as usize] += 1;
     }
 
     /// One slot's edits give what the single edit of all its records gives.
@@ -110,7 +113,7 @@ fn fresh_of(slot: &[u32]) -> Vec<u32> {
 #[test]
 fn the_book_answers_as_the_calls_and_knows_every_word() {
     println!("seeds {SEEDS:?}, {CALLS} calls each");
-    let mut numbers = [0; 12];
+    let (mut numbers, mut reads) = ([0; 12], [0; 5]);
     for seed in SEEDS {
         let mut run = Run::new(seed);
         while !run.book.is_set_up() {
@@ -127,10 +130,15 @@ fn the_book_answers_as_the_calls_and_knows_every_word() {
         assert!(run.slots() <= 5);
         run.check_single_edits();
         numbers.iter_mut().zip(run.numbers).for_each(|(sum, n)| *sum += n);
+        reads.iter_mut().zip(run.reads).for_each(|(sum, n)| *sum += n);
     }
-    println!("answers by number: {numbers:?}");
+    println!("answers by number: {numbers:?}, read {reads:?}");
     for (number, count) in numbers.iter().enumerate() {
         assert_eq!(*count > 0, number != 4, "number {number}");
+    }
+    // Every sheet here has a length that no read refuses.
+    for (number, count) in reads.iter().enumerate() {
+        assert_eq!(*count > 0, matches!(number, 0 | 2 | 3), "read {number}");
     }
 }
 

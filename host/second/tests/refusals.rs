@@ -4,7 +4,7 @@
 mod common;
 
 use common::{compose, edit, flat, grouped, k, one_slot, own, plain, refused, CLINIC};
-use second::{read, read_number, set_up, slot_words, Answer, Edit};
+use second::{read, read_number, set_up, slot_words, Answer, Edit, EditAnswer};
 
 const SLOT: usize = 2_824;
 const BIG: u32 = u32::MAX;
@@ -213,13 +213,14 @@ fn number_10() {
 
 #[test]
 fn slot_words_answers_as_the_edit_of_a_fresh_slot() {
-    assert_eq!(slot_words(1, 7, 0, &[]), Err(answer(4, 0)));
-    assert_eq!(slot_words(1, 80, 80, &[]), Err(answer(4, 0)));
-    assert_eq!(slot_words(1, 80, 0, &[0; 7]), Err(answer(6, 0)));
-    assert_eq!(slot_words(1, 80, 0, &[0; 6 * 257]), Err(answer(7, 0)));
-    assert_eq!(slot_words(1, 80, 0, &[0; 6]), Err(answer(8, 0)));
-    assert_eq!(slot_words(1, 80, 0, &flat(&[grouped(8, 1, 1); 17])), Err(answer(9, 16)));
-    assert_eq!(slot_words(1, 79, 0, &flat(&[k()])), Err(answer(10, 0)));
+    let refusal = |number, place| EditAnswer { number, place };
+    assert_eq!(slot_words(1, 7, 0, &[]), Err(refusal(4, 0)));
+    assert_eq!(slot_words(1, 80, 80, &[]), Err(refusal(4, 0)));
+    assert_eq!(slot_words(1, 80, 0, &[0; 7]), Err(refusal(6, 0)));
+    assert_eq!(slot_words(1, 80, 0, &[0; 6 * 257]), Err(refusal(7, 0)));
+    assert_eq!(slot_words(1, 80, 0, &[0; 6]), Err(refusal(8, 0)));
+    assert_eq!(slot_words(1, 80, 0, &flat(&[grouped(8, 1, 1); 17])), Err(refusal(9, 16)));
+    assert_eq!(slot_words(1, 79, 0, &flat(&[k()])), Err(refusal(10, 0)));
     let fresh = slot_words(1, 80, 0, &[]);
     assert_eq!(fresh.map(|words| (words.len(), words[..3].to_vec())), Ok((SLOT, vec![1, 80, 0])));
 }

@@ -8,7 +8,8 @@ use crate::calls::{Call, Case};
 use crate::failure::Failure;
 use crate::layout::SLOT;
 use crate::program::Program;
-use crate::run::{run, same_answer, same_words, Tally};
+use crate::run::{run, same_answer, same_words};
+use crate::tally::Tally;
 use crate::Scope;
 
 const TEST: &str = "cases";
@@ -29,19 +30,20 @@ pub fn compare(program: &dyn Program, _scope: Scope) -> Result<Tally, Failure> {
             Ok(seen) => tally.add(&seen),
             Err(_) => return Err(Failure::new(TEST, None, program, &beside)),
         }
-        as_on_paper(program, &case).map_err(|difference| paper_failure(case.name, difference))?;
+        as_on_paper(program, &case).map_err(|difference| paper_failure(program, case.name, difference))?;
     }
     for (name, base_advance, expected) in RUBY {
         let offsets = [0, 1, 2].map(|k| program.ruby_place(base_advance, 3, 80, k).offset);
         if offsets != expected {
-            return Err(paper_failure(name, format!("ruby stands at {offsets:?}")));
+            return Err(paper_failure(program, name, format!("ruby stands at {offsets:?}")));
         }
     }
     Ok(tally)
 }
 
-fn paper_failure(name: &'static str, difference: String) -> Failure {
-    Failure { test: TEST, seed: None, difference, calls: 2, case: format!("{name} of {PAPER}") }
+fn paper_failure(program: &dyn Program, name: &'static str, difference: String) -> Failure {
+    let case = format!("{name} of {PAPER}");
+    Failure { program: program.name(), test: TEST, seed: None, difference, calls: 2, case }
 }
 
 /// Whether the answer and every word are those of the paper.

@@ -6,7 +6,8 @@ use crate::generate::{spoil, Style, EDGES};
 use crate::layout::SLOT;
 use crate::program::Program;
 use crate::random::{seeds, Random};
-use crate::run::{run, Tally};
+use crate::run::run;
+use crate::tally::Tally;
 use crate::Scope;
 
 const TEST: &str = "junk";

@@ -1,11 +1,12 @@
-//! Sheets of wrong lengths, and the largest numbers everywhere.
+//! Sheets of wrong lengths, and the largest numbers everywhere, in a damaged head too.
 
 use crate::calls::{Call, Case, Words};
 use crate::failure::Failure;
 use crate::generate::{plain, usual_advance, EDGES};
-use crate::layout::{CLASSES, SLOT};
+use crate::layout::{CLASSES, RECORDS, SLOT};
 use crate::program::Program;
-use crate::run::{run, Tally};
+use crate::run::run;
+use crate::tally::Tally;
 use crate::Scope;
 
 const TEST: &str = "limits";
@@ -25,6 +26,7 @@ pub fn compare(program: &dyn Program, _scope: Scope) -> Result<Tally, Failure> {
     cases.push(group_lengths());
     cases.push(full_slots());
     cases.extend(measures());
+    cases.extend(damaged_heads());
     let mut tally = Tally::default();
     for case in cases {
         match run(program, &case) {
@@ -209,4 +211,19 @@ fn measures() -> Vec<Case> {
     let settings = (8..200).map(|measure| (measure, measure / 3));
     let large = [(1_000_000, 0), (1_000_000, 999_999), (1_000_000, 999_900), (999_999, 1)];
     settings.chain(large).map(in_measure).collect()
+}
+
+/// Every edge in every word of the head of a slot with a text, read and edited so.
+fn damaged_heads() -> Vec<Case> {
+    let with_word = |at, word| {
+        let calls = vec![
+            set_up(1, 800),
+            Call::replace(7, 0, &plain(19, 80).repeat(20)),
+            Call::Damage { at, word },
+            Call::Read { caller: 7, slot: 0 },
+            Call::replace(7, 0, &plain(19, 80)),
+        ];
+        Case { length: SLOT, junk: None, calls }
+    };
+    (0..RECORDS).flat_map(|at| EDGES.map(|edge| with_word(at, edge))).collect()
 }

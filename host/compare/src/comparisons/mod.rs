@@ -11,7 +11,7 @@ pub mod short;
 
 use crate::failure::Failure;
 use crate::program::Program;
-use crate::run::Tally;
+use crate::tally::Tally;
 use crate::Scope;
 
 /// A comparison.

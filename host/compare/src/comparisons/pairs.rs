@@ -9,7 +9,7 @@ use crate::generate::{plain, usual_advance};
 use crate::layout::CLASSES;
 use crate::one_slot::OneSlot;
 use crate::program::Program;
-use crate::run::Tally;
+use crate::tally::Tally;
 use crate::Scope;
 
 const TEST: &str = "pairs";
@@ -38,7 +38,7 @@ pub fn compare(program: &dyn Program, scope: Scope) -> Result<Tally, Failure> {
             slot.set_up(measure, 0)?;
             for_each_pair([80, 120], |left, right| {
                 slot.replace(&[left, right].concat())?;
-                slot.replace(&[left, right, plain(19, 80)].concat()).map(drop)
+                slot.replace(&[left, right, plain(19, 80)].concat())
             })?;
         }
     }

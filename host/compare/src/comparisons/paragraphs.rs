@@ -5,7 +5,7 @@ use crate::generate::{spoil, Style};
 use crate::one_slot::OneSlot;
 use crate::program::Program;
 use crate::random::{seeds, Random};
-use crate::run::Tally;
+use crate::tally::Tally;
 use crate::Scope;
 
 const TEST: &str = "paragraphs";

@@ -1,8 +1,9 @@
 //! Ruby place: all of its limits, and a wide choice of groups.
 
 use crate::failure::Failure;
-use crate::program::{Program, Second};
-use crate::run::Tally;
+use crate::program::{Program, Second, SECOND};
+use crate::run::same_answer;
+use crate::tally::{Outcome, Tally};
 use crate::Scope;
 
 const TEST: &str = "ruby";
@@ -27,16 +28,15 @@ fn row(program: &dyn Program, base: u32, count: u32, size: u32, tally: &mut Tall
     for k in (0..=count.min(66)).chain([u32::MAX]) {
         let tested = program.ruby_place(base, count, size, k);
         let second = Second.ruby_place(base, count, size, k);
-        tally.numbers[second.number as usize] += 1;
-        if tested != second {
-            return Err(Failure {
-                test: TEST,
-                seed: None,
-                difference: format!("it answers {tested:?}; the second program: {second:?}"),
-                calls: 1,
-                case: format!("ruby place: base advance {base}, ruby count {count}, size {size}, k {k}"),
-            });
-        }
+        tally.count(Outcome::RubyPlace(second.number));
+        same_answer(tested, second, SECOND).map_err(|difference| Failure {
+            program: program.name(),
+            test: TEST,
+            seed: None,
+            difference,
+            calls: 1,
+            case: format!("ruby place: base advance {base}, ruby count {count}, size {size}, k {k}"),
+        })?;
     }
     Ok(())
 }

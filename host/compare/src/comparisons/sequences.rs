@@ -7,7 +7,8 @@ use crate::generate::Caller;
 use crate::layout::SLOT;
 use crate::program::Program;
 use crate::random::{seeds, Random};
-use crate::run::{Run, Tally};
+use crate::run::Run;
+use crate::tally::Tally;
 use crate::Scope;
 
 const TEST: &str = "sequences";

@@ -7,7 +7,7 @@ use crate::generate::plain;
 use crate::layout::{CLASSES, LINES};
 use crate::one_slot::OneSlot;
 use crate::program::Program;
-use crate::run::Tally;
+use crate::tally::Tally;
 use crate::Scope;
 
 const TEST: &str = "short";

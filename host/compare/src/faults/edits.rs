@@ -1,6 +1,6 @@
 //! Edits with a fault: what goes in is changed, or what comes out is spoiled.
 
-use second::{Answer, Edit};
+use second::{Edit, EditAnswer};
 
 use super::slots::{
     slot_words, slot_words_mut, spoil_next_slot, spoil_slot, store_records, stored_records, whole_slots,
@@ -11,14 +11,14 @@ use crate::layout::SLOT;
 use crate::program::{Program, Second};
 
 /// The edit with this fault.
-pub fn with_fault(fault: Fault, sheet: &mut [u32], edit: Edit<'_>) -> Answer {
+pub fn with_fault(fault: Fault, sheet: &mut [u32], edit: Edit<'_>) -> EditAnswer {
     let before = sheet.to_vec();
     let answer = with_changed_input(fault, sheet, edit);
     with_spoiled_output(fault, sheet, edit, &before, answer)
 }
 
 /// The edit where the fault lies in what goes in.
-fn with_changed_input(fault: Fault, sheet: &mut [u32], edit: Edit<'_>) -> Answer {
+fn with_changed_input(fault: Fault, sheet: &mut [u32], edit: Edit<'_>) -> EditAnswer {
     let slots = (sheet.len() / SLOT).max(1) as u32;
     let clinic = slot_words(sheet, edit.slot).map_or(0, |words| words[0]);
     match fault {
@@ -44,7 +44,7 @@ fn with_changed_input(fault: Fault, sheet: &mut [u32], edit: Edit<'_>) -> Answer
 }
 
 /// The edit of a slot in which a word of the head is another.
-fn with_head_word(sheet: &mut [u32], edit: Edit<'_>, at: usize, word: u32) -> Answer {
+fn with_head_word(sheet: &mut [u32], edit: Edit<'_>, at: usize, word: u32) -> EditAnswer {
     let Some(slot) = slot_words_mut(sheet, edit.slot) else {
         return Second.edit(sheet, edit);
     };
@@ -57,7 +57,7 @@ fn with_head_word(sheet: &mut [u32], edit: Edit<'_>, at: usize, word: u32) -> An
 }
 
 /// The edit in which records are set as if they were others.
-fn with_records_as(sheet: &mut [u32], edit: Edit<'_>, other: impl Fn(Words) -> Words) -> Answer {
+fn with_records_as(sheet: &mut [u32], edit: Edit<'_>, other: impl Fn(Words) -> Words) -> EditAnswer {
     let mut records = stored_records(sheet, edit.slot);
     let (inserted, cut_short) = edit.inserted.as_chunks::<6>();
     let changed: Vec<Words> = records.iter().map(|&record| other(record)).collect();
@@ -80,14 +80,14 @@ fn with_spoiled_output(
     sheet: &mut [u32],
     edit: Edit<'_>,
     before: &[u32],
-    answer: Answer,
-) -> Answer {
+    answer: EditAnswer,
+) -> EditAnswer {
     let old = slot_words(before, edit.slot).unwrap_or(&[]);
     let Some(slot) = slot_words_mut(sheet, edit.slot) else { return answer };
     match (fault, answer.number) {
         (Fault::RefuseAll, 0) => {
             slot.copy_from_slice(old);
-            Answer { number: 10, place: 0 }
+            another(10, 0)
         }
         (Fault::NextSlot, 0) => {
             spoil_next_slot(sheet, edit.slot);
@@ -95,13 +95,13 @@ fn with_spoiled_output(
         }
         (Fault::OldLineCount, 0) => {
             slot[4] = old[4];
-            Answer { number: 0, place: old[4] }
+            another(0, old[4])
         }
         (Fault::RefusalWrites, 10) => {
             slot[5] = 1;
             answer
         }
-        (Fault::StoredUnjudged, 4) => Answer { number: 0, place: old[4] },
+        (Fault::StoredUnjudged, 4) => another(0, old[4]),
         (_, 0) => {
             spoil_slot(fault, slot, old);
             answer
@@ -110,8 +110,12 @@ fn with_spoiled_output(
     }
 }
 
-fn spoiled_refusal(fault: Fault, edit: Edit<'_>, old: &[u32], answer: Answer) -> Answer {
-    let another = |number, place| Answer { number, place };
+/// Another answer than the right one.
+fn another(number: u32, place: u32) -> EditAnswer {
+    EditAnswer { number, place }
+}
+
+fn spoiled_refusal(fault: Fault, edit: Edit<'_>, old: &[u32], answer: EditAnswer) -> EditAnswer {
     match (fault, answer.number) {
         (Fault::DamageBeforeCaller, 3) if !(8..=1_000_000).contains(&old[1]) => another(4, 0),
         (Fault::FiveNamesPlace, 5) => another(5, edit.place),

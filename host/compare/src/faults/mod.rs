@@ -8,10 +8,10 @@ mod slots;
 
 use std::ops::Range;
 
-use second::{Answer, Edit, RubyPlace};
+use second::{Answer, Edit, EditAnswer, RubyPlace};
 
 use crate::layout::{LINES, SLOT};
-use crate::program::{Program, Second};
+use crate::program::{Program, Second, SECOND};
 use slots::{keep_all_but_heads, keep_texts, slot_words, whole_slots};
 
 /// A wrong program.
@@ -172,6 +172,10 @@ pub const CLASSES_AS: [Fault; 20] = [
 ];
 
 impl Program for Fault {
+    fn name(&self) -> String {
+        format!("{SECOND} with the fault {self:?}")
+    }
+
     fn set_up(&self, sheet: &mut [u32], clinics: &[u32], measures: &[u32], indents: &[u32]) -> Answer {
         let before = sheet.to_vec();
         match self {
@@ -194,7 +198,7 @@ impl Program for Fault {
         answer
     }
 
-    fn edit(&self, sheet: &mut [u32], edit: Edit<'_>) -> Answer {
+    fn edit(&self, sheet: &mut [u32], edit: Edit<'_>) -> EditAnswer {
         edits::with_fault(*self, sheet, edit)
     }
 

@@ -1,0 +1,86 @@
+//! What was answered how often, and whether what must come up did.
+
+use std::collections::BTreeMap;
+use std::fmt;
+use std::ops::Range;
+
+/// What a call answered.
+#[derive(Debug, Clone, Copy, PartialEq, Eq, PartialOrd, Ord)]
+pub enum Outcome {
+    /// Set-up, with this number.
+    SetUp(u32),
+    /// Edit, with this number.
+    Edit(u32),
+    /// Read, with 0 and the words of lines.
+    ReadLines,
+    /// Read, with 0 and no words, as the slot has no lines.
+    ReadNoLines,
+    /// Read, with this number, which is not 0.
+    ReadRefused(u32),
+    /// Ruby place, with this number.
+    RubyPlace(u32),
+}
+
+impl Outcome {
+    /// Every outcome of a read.
+    pub const READS: [Outcome; 6] = [
+        Outcome::ReadLines,
+        Outcome::ReadNoLines,
+        Outcome::ReadRefused(1),
+        Outcome::ReadRefused(2),
+        Outcome::ReadRefused(3),
+        Outcome::ReadRefused(4),
+    ];
+
+    /// The outcome of a read with this number and part.
+    pub fn of_read(number: u32, part: &Range<usize>) -> Outcome {
+        match number {
+            0 if part.is_empty() => Outcome::ReadNoLines,
+            0 => Outcome::ReadLines,
+            _ => Outcome::ReadRefused(number),
+        }
+    }
+}
+
+/// How often each outcome was seen.
+#[derive(Debug, Clone, Default)]
+pub struct Tally(BTreeMap<Outcome, u64>);
+
+impl Tally {
+    /// Counts an outcome.
+    pub fn count(&mut self, outcome: Outcome) {
+        *self.0.entry(outcome).or_default() += 1;
+    }
+
+    /// Counts another tally in.
+    pub fn add(&mut self, other: &Tally) {
+        other.0.iter().for_each(|(outcome, count)| *self.0.entry(*outcome).or_default() += count);
+    }
+
+    /// All calls that were answered.
+    pub fn calls(&self) -> u64 {
+        self.0.values().sum()
+    }
+
+    /// Those of these outcomes that were seen fewer times than `least`.
+    pub fn rare(&self, least: u64, outcomes: impl IntoIterator<Item = Outcome>) -> Vec<Outcome> {
+        let is_rare = |outcome: &Outcome| self.0.get(outcome).is_none_or(|&seen| seen < least);
+        outcomes.into_iter().filter(is_rare).collect()
+    }
+
+    /// Makes sure that each of these outcomes came up.
+    ///
+    /// # Panics
+    ///
+    /// Where one was seen fewer times than `least`.
+    pub fn assert_seen(&self, least: u64, outcomes: impl IntoIterator<Item = Outcome>) {
+        let rare = self.rare(least, outcomes);
+        assert!(rare.is_empty(), "seen fewer than {least} times: {rare:?}; seen: {self}");
+    }
+}
+
+impl fmt::Display for Tally {
+    fn fmt(&self, f: &mut fmt::Formatter<'_>) -> fmt::Result {
+        write!(f, "{:?}", self.0)
+    }
+}

@@ -1,0 +1,37 @@
+//! An outcome that never came up is told, and fails the test that asks for it.
+
+use compare::comparisons::cases;
+use compare::program::Second;
+use compare::tally::Outcome::{self, ReadLines, ReadNoLines, ReadRefused};
+use compare::tally::Tally;
+use compare::Scope;
+
+/// A tally of each outcome of a read but this one.
+fn without(missing: Outcome) -> Tally {
+    let mut tally = Tally::default();
+    Outcome::READS.into_iter().filter(|&read| read != missing).for_each(|read| tally.count(read));
+    tally
+}
+
+#[test]
+fn each_read_that_never_came_up_is_told() {
+    for missing in Outcome::READS {
+        assert_eq!(without(missing).rare(1, Outcome::READS), [missing]);
+    }
+}
+
+#[test]
+#[should_panic(expected = "seen fewer than 1 times: [ReadRefused(4)]")]
+fn a_read_that_never_came_up_fails_the_test() {
+    without(ReadRefused(4)).assert_seen(1, Outcome::READS);
+}
+
+/// No read of the paper's cases is refused. C1, and C10 and C11 where they are refused, leave a slot
+/// without lines.
+#[test]
+fn reads_are_told_apart_by_their_lines() {
+    let tally = cases::compare(&Second, Scope::Full).unwrap();
+    assert_eq!(tally.rare(1, Outcome::READS), [1, 2, 3, 4].map(ReadRefused));
+    assert_eq!(tally.rare(4, [ReadLines, ReadNoLines]), [ReadNoLines]);
+    assert_eq!(tally.rare(3, [ReadLines, ReadNoLines]), []);
+}
