@@ -30,6 +30,7 @@ pub(crate) fn first_bad_record(ws: &[u32]) -> usize
     ensures { λ r. ⌜ r ≡ placeOr (size (now (ws .entry))) (badRecord 0 (paragraph (now (ws .entry)))) ⌝ }
 {
     let n = ws.len() / 6;
+    // laid down once for all records
     let classes = class_table();
     let mut i = 0;
     while i < n {

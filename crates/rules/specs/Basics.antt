@@ -7,7 +7,7 @@
 --   cut          a list cut between each two neighbours that a test does not tie
 --   first of     the first row of a table whose test holds, or what stands under the table
 --   zeros        words past a count
---   tabled       the values of a definition at numbers from one on
+--   tabled       the list of a definition's values, number after number
 --
 -- Assumes nothing.
 use Prim.Native.Nat.{ℕ, zero, suc, _-_}

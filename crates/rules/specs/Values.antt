@@ -3,7 +3,7 @@
 --
 --   .. of        what a function is told: record, side
 --   .. from      what a function answers: kind of advance, rule, gap
---   class table  for each number below 28 its row and the number of its kind of advance, as one number
+--   class table  for each number below 28 its row and its kind of advance, as one number: an entry
 --   classed      the row is that of the class number
 --   bounds       what a function asks of the numbers that it is told, so that its sums and products fit 32 bits
 --
@@ -55,6 +55,7 @@ kindNumbered (suc (suc (suc n))) = full-size
 abbrev pub entryOf : ℕ → ℕ
 entryOf c = 4 * rowOf c + kindNumber (advanceKind c)
 
+-- the entries of 0 to 27
 unfoldable pub classTable : List ℕ
 classTable = tabled entryOf 0 28
 

@@ -41,7 +41,7 @@ const FULL_SIZE: u8 = 3;
 const NO_CLASS: u8 = 4 * 18 + FULL_SIZE;
 
 // For each class number four times its row, and its kind of advance. The compiler lays a constant table down anew at
-// each use: so it has one use, `class_table`, and it has bytes for entries.
+// each use, so it is used in one place, `class_table`, and its entries are bytes.
 const CLASSES: [u8; 28] = [
     NO_CLASS,
     // 1 to 16
@@ -76,7 +76,7 @@ const CLASSES: [u8; 28] = [
     4 * 17 + TO_TWICE,
 ];
 
-// The table, laid down once for many lookups: whoever looks up lends it.
+// The table, for a caller to lay down once and lend to each lookup.
 pub fn class_table() -> [u8; 28]
     ensures { λ t. ⌜ t ≡ classTable ⌝ }
 {
@@ -101,7 +101,7 @@ fn kind_numbered(n: u32) -> AdvanceKind
     }
 }
 
-// What the table has for a class number.
+// What the table, lent as `classes`, has for a class number.
 fn class_row(class: u32, classes: &[u8; 28]) -> ClassRow
     requires { ⌜ now classes ≡ classTable ⌝ }
     ensures { λ r. ⌜ Classed class r ⌝ }
@@ -154,7 +154,7 @@ fn group_ok(class: u32, group: u32, ruby: u32) -> bool
     }
 }
 
-// The record keeps its own rules.
+// The record keeps its own rules. `classes` is the class table.
 pub fn record_ok(r: Record, classes: &[u8; 28]) -> bool
     requires { ⌜ now classes ≡ classTable ⌝ }
     ensures { λ b. ⌜ b ≡ recOk (recordOf r) ⌝ }
