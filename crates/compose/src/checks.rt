@@ -6,6 +6,7 @@ ghost use Rattle.rules.specs.Groups.{joins, groupFault};
 ghost use Rattle.rules.specs.Values.{recordOf};
 ghost use Rattle.compose.specs.Paragraph.{size, paragraph, placeOr};
 use rules::Record;
+use rules::class_table;
 use rules::record_ok;
 
 // Record `i` of a paragraph.
@@ -29,9 +30,11 @@ pub(crate) fn first_bad_record(ws: &[u32]) -> usize
     ensures { λ r. ⌜ r ≡ placeOr (size (now (ws .entry))) (badRecord 0 (paragraph (now (ws .entry)))) ⌝ }
 {
     let n = ws.len() / 6;
+    // laid down once for all records
+    let classes = class_table();
     let mut i = 0;
     while i < n {
-        if !record_ok(record_at(ws, i)) {
+        if !record_ok(record_at(ws, i), &classes) {
             return i;
         }
         i += 1;

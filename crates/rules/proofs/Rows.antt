@@ -1,7 +1,7 @@
 -- Class numbers and their rows: the table below 28, the numbers past it, and that a class is a number with a row.
 -- Assumes nothing.
 use mathlib.Core.Path.{_≡_, refl, sym, ap, _∙_}
-use Prim.Native.Nat.{ℕ, zero, suc, _+_, _*_, _/_, _%_, _≤_, _<_}
+use Prim.Native.Nat.{ℕ, zero, suc, _/_, _%_, _≤_, _<_}
 use native.Mathlib.Omega.{arith}
 use mathlib.Core.Bool.{Bool, true, false, cond, _&&_, _||_, and-eq-true-iff}
 use mathlib.Core.List.{List, [], _∷_}
@@ -11,8 +11,8 @@ use borrow.Author.Tests.{ne-eqb, ltb-true, lt-ltb}
 use Rattle.rules.specs.Basics.{isIn}
 use Rattle.rules.specs.Records.{classes, classOk, placeIn, rowOf, advanceKind}
 use Rattle.rules.specs.Records.{AdvanceKind, half-size, to-size, to-twice, full-size}
-use Rattle.rules.specs.Values.{kindNumber, kindNumbered}
-use Rattle.rules.proofs.Table.{tabled, tabled-at}
+use Rattle.rules.specs.Values.{kindNumber, kindNumbered, entryOf, classTable}
+use Rattle.rules.proofs.Table.{tabled-at}
 
 -- a kind of advance and its number
 number-kept : (k : AdvanceKind) → kindNumbered (kindNumber k) ≡ k
@@ -33,12 +33,9 @@ numbered-past (suc zero) a b c = absurd (b refl)
 numbered-past (suc (suc zero)) a b c = absurd (c refl)
 numbered-past (suc (suc (suc n))) a b c = refl
 
--- the table's entry for a class number: four times the row, and the number of the kind
-abbrev pub entryOf : ℕ → ℕ
-entryOf c = 4 * rowOf c + kindNumber (advanceKind c)
-
-pub entry-at : (c : ℕ) → c < 28 → getD (tabled entryOf 0 28) c 0 ≡ entryOf c
-entry-at c h = tabled-at entryOf 0 28 c h
+pub entry-at : {t : List ℕ} → t ≡ classTable → (c : ℕ) → c < 28 → getD t c 0 ≡ entryOf c
+unfolding classTable
+entry-at e c h = rw e (tabled-at entryOf 0 28 c h)
 
 -- what is read off an entry
 pub entry-row : (c : ℕ) → entryOf c / 4 ≡ rowOf c

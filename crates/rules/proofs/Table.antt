@@ -2,15 +2,10 @@
 -- each entry is the definition's value at its place.
 -- Assumes nothing.
 use mathlib.Core.Path.{_≡_}
-use mathlib.Core.List.{List, [], _∷_}
 use Prim.Native.Nat.{ℕ, zero, suc, _+_, _<_}
 use native.Mathlib.Nat.{add-zero, zero-add, add-suc, suc-add, le-of-suc-le-suc, not-suc-le-zero}
 use lib.ListN.{getD}
-
--- the values of g at n numbers, from i on
-abbrev pub tabled : {A : Type 0} → (ℕ → A) → ℕ → ℕ → List A
-tabled g i zero = []
-tabled g i (suc n) = g i ∷ tabled g (suc i) n
+use Rattle.rules.specs.Basics.{tabled}
 
 tabled-from : {A : Type 0} (g : ℕ → A) (d : A) (i n k : ℕ) → k < n → getD (tabled g i n) k d ≡ g (i + k)
 tabled-from g d i zero k h = absurd (not-suc-le-zero h)

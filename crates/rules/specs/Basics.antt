@@ -7,9 +7,10 @@
 --   cut          a list cut between each two neighbours that a test does not tie
 --   first of     the first row of a table whose test holds, or what stands under the table
 --   zeros        words past a count
+--   tabled       the list of a definition's values, number after number
 --
 -- Assumes nothing.
-use Prim.Native.Nat.{ℕ, _-_}
+use Prim.Native.Nat.{ℕ, zero, suc, _-_}
 use mathlib.Core.Bool.{Bool, false, cond, _&&_, _||_}
 use mathlib.Core.List.{List, [], _∷_, _++_}
 use lib.Dec.{leb, eqb}
@@ -62,3 +63,8 @@ zeros n = replicate n 0
 -- a list brought to n words by zeros
 abbrev pub padded : ℕ → List ℕ → List ℕ
 padded n ws = ws ++ zeros (n - length ws)
+
+-- the values of g at n numbers, from i on
+abbrev pub tabled : {A : Type 0} → (ℕ → A) → ℕ → ℕ → List A
+tabled g i zero = []
+tabled g i (suc n) = g i ∷ tabled g (suc i) n

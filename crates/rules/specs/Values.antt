@@ -3,16 +3,17 @@
 --
 --   .. of        what a function is told: record, side
 --   .. from      what a function answers: kind of advance, rule, gap
+--   class table  for each number below 28 its row and its kind of advance, as one number: an entry
 --   classed      the row is that of the class number
 --   bounds       what a function asks of the numbers that it is told, so that its sums and products fit 32 bits
 --
 -- Assumes nothing.
 use mathlib.Core.Path.{_≡_}
-use Prim.Native.Nat.{ℕ, zero, suc, _≤_, _<_}
+use Prim.Native.Nat.{ℕ, zero, suc, _+_, _*_, _≤_, _<_}
 use mathlib.Core.Bool.{cond, _&&_}
-use mathlib.Core.List.{[], _∷_}
+use mathlib.Core.List.{List, [], _∷_}
 use lib.Dec.{eqb}
-use Rattle.rules.specs.Basics.{isIn}
+use Rattle.rules.specs.Basics.{isIn, tabled}
 use Rattle.rules.specs.Records.{Rec, recOf, rowOf, advanceKind}
 use Rattle.rules.specs.Records.{AdvanceKind, half-size, to-size, to-twice, full-size}
 use Rattle.rules.specs.Sides.{Side}
@@ -49,6 +50,14 @@ kindNumbered zero = half-size
 kindNumbered (suc zero) = to-size
 kindNumbered (suc (suc zero)) = to-twice
 kindNumbered (suc (suc (suc n))) = full-size
+
+-- the class table's entry for a class number: four times the row, and the number of the kind
+abbrev pub entryOf : ℕ → ℕ
+entryOf c = 4 * rowOf c + kindNumber (advanceKind c)
+
+-- the entries of 0 to 27
+unfoldable pub classTable : List ℕ
+classTable = tabled entryOf 0 28
 
 pub record Classed (c : ℕ) (answer : ClassRow) : Type 0 where
   pub row : answer .row ≡ rowOf c

@@ -16,6 +16,7 @@ pub use groups::base_offset;
 pub use groups::group_advance;
 pub use groups::ruby_place;
 pub use records::Record;
+pub use records::class_table;
 pub use records::record_ok;
 pub use sheet::limits_ok;
 pub use sheet::slot_limits_ok;

@@ -1,7 +1,7 @@
 // "Records and groups": a record and its own rules.
 ghost use mathlib.Core.Path.{_≡_};
 ghost use Rattle.rules.specs.Records.{codeOk, sizeOk, advanceFits, groupOk, recOk};
-ghost use Rattle.rules.specs.Values.{recordOf, kindFrom, kindNumbered, Classed};
+ghost use Rattle.rules.specs.Values.{recordOf, kindFrom, kindNumbered, classTable, Classed};
 use crate::basics::between;
 use crate::basics::one_of3;
 
@@ -40,8 +40,8 @@ const FULL_SIZE: u8 = 3;
 // What the table has for a number that is no class: row 18, and the kind of most classes.
 const NO_CLASS: u8 = 4 * 18 + FULL_SIZE;
 
-// For each class number four times its row, and its kind of advance. A table of bytes, since the compiler lays a
-// constant table down anew at each use.
+// For each class number four times its row, and its kind of advance. The compiler lays a constant table down anew at
+// each use, so it is used in one place, `class_table`, and its entries are bytes.
 const CLASSES: [u8; 28] = [
     NO_CLASS,
     // 1 to 16
@@ -76,6 +76,13 @@ const CLASSES: [u8; 28] = [
     4 * 17 + TO_TWICE,
 ];
 
+// The table, for a caller to lay down once and lend to each lookup.
+pub fn class_table() -> [u8; 28]
+    ensures { λ t. ⌜ t ≡ classTable ⌝ }
+{
+    CLASSES
+}
+
 fn wide(x: u8) -> u32
     ensures { λ r. ⌜ r ≡ x ⌝ }
 {
@@ -94,12 +101,13 @@ fn kind_numbered(n: u32) -> AdvanceKind
     }
 }
 
-// What the table has for a class number.
-fn class_row(class: u32) -> ClassRow
+// What the table, lent as `classes`, has for a class number.
+fn class_row(class: u32, classes: &[u8; 28]) -> ClassRow
+    requires { ⌜ now classes ≡ classTable ⌝ }
     ensures { λ r. ⌜ Classed class r ⌝ }
 {
     let entry = if class < 28 {
-        wide(CLASSES[class as usize])
+        wide(classes[class as usize])
     } else {
         wide(NO_CLASS)
     };
@@ -146,11 +154,12 @@ fn group_ok(class: u32, group: u32, ruby: u32) -> bool
     }
 }
 
-// The record keeps its own rules.
-pub fn record_ok(r: Record) -> bool
+// The record keeps its own rules. `classes` is the class table.
+pub fn record_ok(r: Record, classes: &[u8; 28]) -> bool
+    requires { ⌜ now classes ≡ classTable ⌝ }
     ensures { λ b. ⌜ b ≡ recOk (recordOf r) ⌝ }
 {
-    let c = class_row(r.class);
+    let c = class_row(r.class, classes);
     let kind = c.kind;
     if !code_ok(r.code) {
         return false;

@@ -10,16 +10,19 @@ use Rattle.compose.proofs.checks.first_bad_record.Statement.{statement}
 use Rattle.compose.proofs.checks.first_bad_record.Tie as tie
 
 abbrev Inv-loop : tie.InvT-loop
-Inv-loop ws n i₀ i = Sound ws i
+Inv-loop ws n classes i₀ i = Sound ws i
 
 abbrev μ-loop : tie.MeasureT-loop
-μ-loop ws n i₀ i = n - i
+μ-loop ws n classes i₀ i = n - i
 
 -- what the two calls say of record i
 judged : (c : tie.After-record-ok Inv-loop μ-loop) →
-    let l = c .before .before .before in
-    recOk (recAt (now (l .before .before .args .ws)) (l .loop .i)) ≡ c .record-ok .result
-judged c = sym (c .record-ok .ensures ∙ ap recOk (c .before .record-at .ensures))
+    let l = c .before .before .before .before in
+    recOk (recAt (now (l .before .before .before .args .ws)) (l .loop .i)) ≡ c .record-ok .result
+judged c = sym (c .record-ok .ensures ∙ ap recOk (c .before .before .record-at .ensures))
+
+class-table-requires : tie.Need-class-table-requires Inv-loop μ-loop
+class-table-requires c κs = search needs
 
 loop-holds : tie.Need-loop-holds Inv-loop μ-loop
 loop-holds c = sound-start
@@ -32,7 +35,7 @@ record-ok-requires c κs = search needs
 
 returns : tie.Need-returns Inv-loop μ-loop
 returns c =
-    let d = c .before .before .before in
+    let d = c .before .before .before .before in
     sound-bad (d .loop-test .taken) (judged (c .before) ∙ not-true _ (c .if1 .taken)) (d .before .loop .inv)
 
 add-i : tie.Need-add-i Inv-loop μ-loop
@@ -43,7 +46,7 @@ loop-less c = search needs
 
 loop-again : tie.Need-loop-again Inv-loop μ-loop
 loop-again c =
-    let d = c .before .before .before in
+    let d = c .before .before .before .before in
     sound-more (d .loop-test .taken) (judged (c .before) ∙ not-false _ (c .if1 .left)) (d .before .loop .inv)
 
 returns-2 : tie.Need-returns-2 Inv-loop μ-loop
@@ -55,6 +58,7 @@ first-bad-record-spec =
     (tie.spec
     Inv-loop
     μ-loop
+    class-table-requires
     loop-holds
     record-at-requires
     record-ok-requires

@@ -1,20 +1,17 @@
--- `rules::records::class_row` meets its contract. That its table is the rules' own, as `entry-at` has it, is computed.
--- Assumes nothing.
+-- `rules::records::class_row` meets its contract. Assumes nothing.
 use mathlib.Core.Path.{_≡_, ap, _∙_}
 use Prim.Native.Nat.{_/_, _%_}
 use mathlib.Core.Logic.{⊎-elim}
 use borrow.Author.Needs.{needs}
-use Rattle.rules.specs.Records.{classes, rowOf, advanceKind}
-use Rattle.rules.specs.Values.{kindNumbered}
-use Rattle.rules.proofs.Rows.{entryOf, entry-at, entry-past, entry-row, entry-kind}
+use Rattle.rules.specs.Values.{kindNumbered, entryOf}
+use Rattle.rules.proofs.Rows.{entry-at, entry-past, entry-row, entry-kind}
 use Rattle.rules.proofs.records.class_row.Statement.{statement}
 use Rattle.rules.proofs.records.class_row.Tie as tie
 
 -- the entry is the class's own
 entry-is : (c : tie.Joined1) → c .if1 .entry ≡ entryOf (c .before .args .class)
-unfolding rowOf classes advanceKind
 entry-is c =
-    ⊎-elim (λ w. w .2 ∙ w .1 .ensures ∙ entry-at _ (w .0 .taken))
+    ⊎-elim (λ w. w .3 ∙ w .2 .ensures ∙ entry-at (c .before .pre) _ (w .0 .taken))
     (λ w. w .2 ∙ w .1 .ensures ∙ entry-past _ (w .0 .left))
     (c .if1 .came)
 
