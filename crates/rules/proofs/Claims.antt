@@ -29,6 +29,8 @@ use Rattle.rules.proofs.GapLimits.{within-limits}
 use Rattle.rules.proofs.GapLimits.{first-stage-full}
 use Rattle.rules.proofs.GroupRows.{base-within, ruby-within}
 use Rattle.rules.proofs.RubyPlaces.{accepted-placed}
+use Rattle.rules.proofs.groups.ruby_place.Statement as ruby-place-contract
+use Rattle.rules.proofs.groups.ruby_place.Met as ruby-place-met
 
 -- Units ------------------------------------------------------------------------------------------------------------
 
@@ -54,6 +56,10 @@ base-row-within u rs r qs e = base-within u rs r qs e
 
 pub ruby-row-within : (base n s k : ℕ) → k < n → rubyOffset base n s k + s / 2 ≤ groupAdvance base n s
 ruby-row-within base n s k h = ruby-within base n s k h
+
+-- the code of ruby place meets its contract
+pub ruby-place-meets : {M : Type 1} → ruby-place-contract.statement M
+ruby-place-meets = ruby-place-met.met
 
 -- of records that are accepted in some measure, ruby place gives every ruby character of every group its offset
 pub ruby-placed : (m x : ℕ) (rs : List Rec) → judged m x rs .number ≡ 0 → All RubyPlaced (units rs)

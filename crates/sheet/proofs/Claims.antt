@@ -12,9 +12,9 @@ use Rattle.rules.specs.Basics.{Run as RunOf}
 use Rattle.rules.specs.Groups.{TextUnit, units}
 use Rattle.rules.specs.Breaks.{runs, breaking}
 use Rattle.rules.specs.Adjustment.{compose}
-use Rattle.rules.specs.Sheet.{lineWords, lineCountOf, measureOf, indentOf, slotAt}
+use Rattle.rules.specs.Sheet.{lineWords, lineCountOf, measureOf, indentOf, recordsOf, slotAt}
 use Rattle.rules.specs.Refusals.{Outcome, edited}
-use Rattle.rules.specs.Meanings.{Choice, Fits, Longest, FirstWide}
+use Rattle.rules.specs.Meanings.{All, Choice, Fits, Longest, FirstWide, RubyPlaced}
 use Rattle.rules.proofs.Claims.{lines-chosen}
 use Rattle.sheet.specs.Book.{SlotCall, reads, Call, call-on, Reply, read-reply, numberOf, step}
 use Rattle.sheet.specs.Book.{BookSlot, bookStep}
@@ -26,7 +26,7 @@ use Rattle.sheet.proofs.Runs.{EditRun, caller, slot, place, deleted, in
 use Rattle.sheet.proofs.Runs.{Run, call, before, after, reply, Chained}
 use Rattle.sheet.proofs.Told.{told}
 use Rattle.sheet.proofs.RunLaws.{run-unchanged, run-length, run-alike, run-frame, read-lines, read-nothing}
-use Rattle.sheet.proofs.RunLaws.{read-kept, run-splices, run-found-0, run-0, run-10, run-10-place, run-read}
+use Rattle.sheet.proofs.RunLaws.{read-kept, run-splices, run-found-0, run-0, run-10, run-10-place, run-rubies, run-read}
 use Rattle.sheet.proofs.Booked.{Begun, AsBooked}
 use Rattle.sheet.proofs.Histories.{as-booked}
 use Rattle.sheet.proofs.setting.set_up.Statement as set-up-contract
@@ -109,6 +109,10 @@ module _ (u : EditRun) where
   -- at the first record of the first run that is too wide
   pub edit-10-place : answer u .number ≡ 10 → FirstWide m x (runs us) (answer u .place)
   edit-10-place h = run-10-place u h
+
+  -- ruby place gives every ruby character of the slot's groups its offset
+  pub edit-ruby : answer u .number ≡ 0 → All RubyPlaced (units (recordsOf (slotAfter u)))
+  edit-ruby h = run-rubies u h
 
   -- a read by the same caller then hands back the line words that the rules give the records
   pub read-after-edit : answer u .number ≡ 0 → (r : Run) → call r ≡ call-on (caller u) (slot u) reads →

@@ -1,25 +1,28 @@
 -- Laws of each run of a call, from those of the definitions: what it leaves alone, what it goes by, and what reads hand
 -- back. Assumes nothing.
 use mathlib.Core.Path.{_≡_, refl, sym, ap, subst, _∙_}
-use Prim.Native.Nat.{ℕ, _*_}
+use Prim.Native.Nat.{ℕ, _*_, _/_}
 use mathlib.Core.List.{List, []}
 use mathlib.Core.Logic.{_↔_}
 use mathlib.Core.Option.{none}
 use lib.ListN.{length, getD, take, drop}
 use denote.Ref.{now}
 use Rattle.rules.specs.Basics.{Run as RunOf}
+use Rattle.rules.specs.Records.{records}
 use Rattle.rules.specs.Groups.{TextUnit, units}
 use Rattle.rules.specs.Breaks.{runs, noBreaking}
 use Rattle.rules.specs.Adjustment.{compose}
-use Rattle.rules.specs.Sheet.{lineWords, lineCountOf, measureOf, indentOf, slotAt}
-use Rattle.rules.specs.Refusals.{EditAnswer, Outcome, edited, edit, readNumber, readWords}
-use Rattle.rules.specs.Meanings.{Choice, Fits, FirstWide}
+use Rattle.rules.specs.Sheet.{lineWords, lineCountOf, measureOf, indentOf, recordsOf, slotAt}
+use Rattle.rules.specs.Refusals.{EditAnswer, Outcome, splice, edited, edit, readNumber, readWords}
+use Rattle.rules.specs.Meanings.{All, Choice, Fits, FirstWide, RubyPlaced}
+use Rattle.rules.proofs.RubyPlaces.{rubies-placed}
 use Rattle.sheet.specs.Book.{SlotCall, reads, Call, call-on, Reply, read-reply, numberOf, refusal, inSlot, step}
 use Rattle.sheet.specs.Meanings.{Outside, AlikeFor, LeftAlike, NoEarlier, Spliced}
 use Rattle.sheet.specs.declared.Clinic.{Clinic}
 use Rattle.sheet.specs.declared.SlotNumber.{SlotNumber}
 use Rattle.sheet.proofs.OnSlot.{on-frame}
 use Rattle.sheet.proofs.Reading.{read-slot, read-none, read-on-slot}
+use Rattle.sheet.proofs.Words.{records-again}
 use Rattle.sheet.proofs.SlotCalls.{keeps}
 use Rattle.sheet.proofs.Frame.{refused-unchanged, step-length, same-reply, left-alike}
 use Rattle.sheet.proofs.Changes.{accepted-edit, read-after, found-0, exactly-0, exactly-10, place-10}
@@ -144,6 +147,17 @@ module _ (u : EditRun) where
   run-10-place =
       by-contract (λ o. o .0 .number ≡ 10 → FirstWide m x (runs us) (o .0 .place))
       (place-10 ws (caller u .0) (slot u .0) (place u) (deleted u) (inserted u))
+
+  -- the groups of the slot that it leaves are within ruby place's limits
+  pub run-rubies : answer u .number ≡ 0 → All RubyPlaced (units (recordsOf (slotAfter u)))
+  run-rubies z =
+      let s = run-splices z in
+      let due = run-0 .0 z .0 in
+      let same : records (inserted u) 0 (length (inserted u) / 6) ≡ s .new
+      = ap (λ w. records w 0 (length w / 6)) (sym (s .whole)) ∙ records-again (s .new) in
+      let e : edited (slotBefore u) (place u) (deleted u) (inserted u) ≡ recordsOf (slotAfter u)
+      = ap (splice (recordsOf (slotBefore u)) (place u) (deleted u)) same ∙ sym (s .changed) in
+      rw (← e) (rubies-placed _ (due .records) (due .groups))
 
   -- a read by the same caller on the sheet that it left
   pub run-read : answer u .number ≡ 0 → (r : Run) → call r ≡ call-on (caller u) (slot u) reads →
