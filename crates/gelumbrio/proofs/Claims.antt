@@ -1,6 +1,6 @@
 -- What is proved of the exports, in reading order: what crate `sheet` proves of every run of its calls, said of runs of
 -- `gelumbrio_*`. Each claim is proved by one citation. Assumes nothing.
-use mathlib.Core.Path.{_≡_}
+use mathlib.Core.Path.{_≡_, refl}
 use Prim.Native.Nat.{ℕ}
 use mathlib.Core.List.{List, map}
 use lib.ListN.{length, getD}
@@ -8,10 +8,10 @@ use Rattle.sheet.specs.Book.{SlotCall, reads, call-on, numberOf}
 use Rattle.sheet.specs.Meanings.{Outside, AlikeFor, LeftAlike}
 use Rattle.sheet.specs.declared.Clinic.{Clinic}
 use Rattle.sheet.specs.declared.SlotNumber.{SlotNumber}
-use Rattle.sheet.proofs.Runs.{call, before, after, reply, Chained}
+use Rattle.sheet.proofs.Runs.{SetUpRun, EditRun, PartRun, NumberRun, call, before, after, reply, Chained}
 use Rattle.sheet.proofs.Booked.{Begun, AsBooked}
 use Rattle.sheet.proofs.Claims as sheet
-use Rattle.gelumbrio.proofs.Exports.{Export, handed}
+use Rattle.gelumbrio.proofs.Exports.{SetUpExport, EditExport, PartExport, NumberExport, Export, handed}
 use Rattle.gelumbrio.proofs.gelumbrio_set_up.Statement as set-up-contract
 use Rattle.gelumbrio.proofs.gelumbrio_set_up.Met as set-up-met
 use Rattle.gelumbrio.proofs.gelumbrio_edit.Statement as edit-contract
@@ -40,6 +40,13 @@ read-number-meets = read-number-met.met
 
 pub ruby-place-meets : {M : Type 1} → ruby-place-contract.statement M
 ruby-place-meets = ruby-place-met.met
+
+-- and these are the statements of the calls that they hand on: a run of an export is a run of the call, so that all that
+-- crate `sheet` claims of runs holds of it
+pub same-runs :
+    (_≡_ {A = Type 0} SetUpExport SetUpRun) × (_≡_ {A = Type 0} EditExport EditRun)
+    × (_≡_ {A = Type 0} PartExport PartRun) × (_≡_ {A = Type 0} NumberExport NumberRun)
+same-runs = (refl, refl, refl, refl)
 
 -- every refusal leaves the whole sheet unchanged, and no call changes its length
 pub refusals-change-nothing : (e : Export) → let r = handed e in (numberOf (reply r) ≡ 0 → ⊥) → after r ≡ before r
