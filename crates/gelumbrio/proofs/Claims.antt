@@ -1,5 +1,5 @@
--- What is proved of the exports, in reading order: what crate `sheet` proves of every run of its calls, said of runs of
--- `gelumbrio_*`. Each claim is proved by one citation. Assumes nothing.
+-- What is proved of the exports, in reading order: what crate `sheet` proves of every run of its calls, said of every
+-- run of `gelumbrio_*`. Each claim is proved by one citation. Assumes nothing.
 use mathlib.Core.Path.{_≡_, refl}
 use Prim.Native.Nat.{ℕ}
 use mathlib.Core.List.{List, map}
@@ -41,8 +41,8 @@ read-number-meets = read-number-met.met
 pub ruby-place-meets : {M : Type 1} → ruby-place-contract.statement M
 ruby-place-meets = ruby-place-met.met
 
--- and these are the statements of the calls that they hand on: a run of an export is a run of the call, so that all that
--- crate `sheet` claims of runs holds of it
+-- and these are the statements of the calls that they hand on: a run of an export is a run of the call, so that all
+-- that crate `sheet` claims of runs holds of it
 pub same-runs :
     (_≡_ {A = Type 0} SetUpExport SetUpRun) × (_≡_ {A = Type 0} EditExport EditRun)
     × (_≡_ {A = Type 0} PartExport PartRun) × (_≡_ {A = Type 0} NumberExport NumberRun)

@@ -1,10 +1,7 @@
 -- Runs of the exports, of which the claims speak: arguments, result, parameters at exit, and what the export's own
 -- contract promises of these. Assumes nothing.
-use mathlib.Core.Path.{_≡_}
-use Prim.Native.Nat.{ℕ}
-use mathlib.Core.List.{List}
 use denote.Ref.{now}
-use Rattle.sheet.proofs.Runs.{Ran, InTurn, Run, set-up-run, edit-run, read-part-run}
+use Rattle.sheet.proofs.Runs.{Ran, Together, Run, set-up-run, edit-run, read-part-run}
 use Rattle.gelumbrio.proofs.gelumbrio_set_up.Kinds as set-up-kinds
 use Rattle.gelumbrio.proofs.gelumbrio_set_up.Reads as set-up-reads
 use Rattle.gelumbrio.proofs.gelumbrio_edit.Kinds as edit-kinds
@@ -26,16 +23,12 @@ PartExport = Ran 1 read-kinds.ps read-kinds.r read-reads.Learnt
 abbrev pub NumberExport : Type 0
 NumberExport = Ran 1 number-kinds.ps number-kinds.r number-reads.Learnt
 
--- a read and its companion, told the same things, in either order
+-- a read and its companion
 pub record ReadExport : Type 0 where
   pub part : PartExport
   pub number : NumberExport
-  pub found : List ℕ
-  pub left : List ℕ
-  pub in-turn : InTurn (now (part .args .0)) (now (part .exit .0)) (now (number .args .0)) (now (number .exit .0)) found
-      left
-  pub same-caller : number .args .1 .0 ≡ part .args .1 .0
-  pub same-slot : number .args .1 .1 .0 ≡ part .args .1 .1 .0
+  pub together : Together (now (part .args .0)) (now (part .exit .0)) (now (number .args .0)) (now (number .exit .0))
+      (part .args .1 .0) (number .args .1 .0) (part .args .1 .1 .0) (number .args .1 .1 .0)
 
 pub data Export : Type 0 where
   set-up-export : SetUpExport → Export
@@ -46,14 +39,4 @@ pub data Export : Type 0 where
 abbrev pub handed : Export → Run
 handed (set-up-export u) = set-up-run u
 handed (edit-export u) = edit-run u
-handed (read-export u) =
-    read-part-run
-    (record {
-      part = u .part;
-      number = u .number;
-      found = u .found;
-      left = u .left;
-      in-turn = u .in-turn;
-      same-caller = u .same-caller;
-      same-slot = u .same-slot;
-    })
+handed (read-export u) = read-part-run (record { part = u .part; number = u .number; together = u .together })

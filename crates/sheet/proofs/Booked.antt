@@ -16,9 +16,9 @@ use Rattle.sheet.proofs.Runs.{SetUpRun, Run, set-up-run, call, before, 
 abbrev pub booked : ℕ → List Run → List Reply × List BookSlot
 booked n rs = runBook n (map call rs) []
 
--- the words w of a slot s are those of the single edit; and on any sheet with such a fresh slot j, every run of the edit
--- by the slot's clinic, at place 0, that deletes nothing and inserts the words of all records, is accepted and leaves w.
--- An unassigned slot has no clinic to call, and no records
+-- the words w of a slot s are those of the single edit; and on any sheet with such a fresh slot j, every run of the
+-- edit by the slot's clinic, at place 0, that deletes nothing and inserts the words of all records, is accepted and
+-- leaves w. An unassigned slot has no clinic to call, and no records
 pub record BySingleEdit (s : BookSlot) (w : List ℕ) : Type 0 where
   pub slot : single s ≡ w
   pub unassigned : s .setting .clinic ≡ 0 → s .records ≡ []

@@ -1,29 +1,23 @@
--- What an accepted edit does on a sheet of any words, and when answers 0 and 10 are given. Assumes nothing.
+-- What an accepted edit does on a sheet of any words, and what a read hands back after it. Assumes nothing.
 use mathlib.Core.Path.{_≡_, refl, sym, ap, _∙_}
-use Prim.Native.Nat.{ℕ, _-_, _≤_}
+use Prim.Native.Nat.{ℕ, _≤_}
 use native.Mathlib.Omega.{arith}
 use mathlib.Core.Bool.{true}
 use mathlib.Core.List.{List}
-use mathlib.Core.Logic.{_↔_, inl, inr}
-use mathlib.Core.Option.{Option, none, some}
+use mathlib.Core.Logic.{inl, inr}
 use lib.Dec.{eqb}
 use lib.ListN.{length}
 use borrow.Author.Tests.{eqb-true, eqb-false}
-use Rattle.rules.specs.Basics.{Run}
 use Rattle.rules.specs.Groups.{TextUnit, units}
-use Rattle.rules.specs.Breaks.{runs, noBreaking}
 use Rattle.rules.specs.Adjustment.{compose}
 use Rattle.rules.specs.Sheet.{Setting, lineWords, slotWords, clinicOf, measureOf, indentOf, settingOf, lineCountOf}
 use Rattle.rules.specs.Sheet.{slotAt}
-use Rattle.rules.specs.Refusals.{Answer, says, EditAnswer, asEdit, Outcome, orElse, judged, edited, slotRows}
-use Rattle.rules.specs.Refusals.{editSlot, callRows, called, onSlot, edit, readNumber, readWords}
-use Rattle.rules.specs.Meanings.{Choice, Fits, FirstWide}
+use Rattle.rules.specs.Refusals.{says, EditAnswer, asEdit, Outcome, edited, slotRows, editSlot}
+use Rattle.rules.specs.Refusals.{callRows, called, onSlot, readNumber, readWords}
 use Rattle.rules.proofs.Facts.{tested}
-use Rattle.rules.proofs.Claims.{no-10-exactly, answer-10}
-use Rattle.rules.proofs.Judged.{judged-passes, judged-0, judged-10}
 use Rattle.rules.proofs.Lengths.{composed-few}
-use Rattle.sheet.specs.Meanings.{NoEarlier, Spliced}
-use Rattle.sheet.proofs.Tables.{same-number, lacking, passed, under-table}
+use Rattle.sheet.specs.Meanings.{Spliced}
+use Rattle.sheet.proofs.Tables.{same-number, lacking, passed}
 use Rattle.sheet.proofs.Reading.{number-0, read-slot}
 use Rattle.sheet.proofs.Words.{slot-setting, slot-line-count, slot-lines}
 use Rattle.sheet.proofs.OnSlot.{on-entering, on-refusing, on-length, on-slot}
@@ -59,7 +53,7 @@ module _ (ws : List ℕ) (caller k place deleted : ℕ) (inserted : List ℕ) wh
     pub answer : out .0 ≡ here before .0
     pub slot : slotAt (out .1) k ≡ here before .1
 
-  from-slot : (n : ℕ) → lacking n (callRows ws caller k) ≡ true → out .0 .number ≡ n → FromSlot n
+  pub from-slot : (n : ℕ) → lacking n (callRows ws caller k) ≡ true → out .0 .number ≡ n → FromSlot n
   unfolding called
   from-slot n l z =
       elim (tested (eqb (called ws caller k .number) 0)) [
@@ -108,87 +102,3 @@ module _ (ws : List ℕ) (caller k place deleted : ℕ) (inserted : List ℕ) wh
       = rw (s, slot-line-count) (omega (arith, composed-few m x rs)) in
       let n = number-0 (out .1) caller k (same-number called-again ∙ f .entry) lines in
       (n, read-slot (out .1) caller k n ∙ rw (s, slot-line-count) (slot-lines (settingOf before) rs few))
-
-  -- Answers 0 and 10
-
-  pub found-0 : out .0 .number ≡ 0 → noBreaking m x us ≡ none
-  unfolding callRows slotRows editSlot
-  found-0 z =
-      let f = from-slot 0 refl z in
-      let j = slot-judged before place deleted inserted 0 refl (f .number) .answer in
-      judged-0 m x _ (same-number (sym j) ∙ f .number) .0
-
-  -- the place of 10 is the first record of the first run that is too wide
-  pub place-10 : out .0 .number ≡ 10 → FirstWide m x (runs us) (out .0 .place)
-  unfolding callRows slotRows editSlot
-  place-10 z =
-      let f = from-slot 10 refl z in
-      let j = slot-judged before place deleted inserted 10 refl (f .number) .answer in
-      let a : out .0 ≡ asEdit (judged m x (edited before place deleted inserted)) = f .answer ∙ ap asEdit j in
-      let e = judged-10 m x _ (same-number (sym j) ∙ f .number) in
-      answer-10 m x us (out .0 .place) (e ∙ ap (λ (b : EditAnswer). some (b .place)) (sym a)) .1
-
-  abbrev pub Breakable : Type 0
-  Breakable = (ls : List (Run TextUnit)) × Choice us ls × Fits m x ls
-
-  abbrev NoneDue : Type 0
-  NoneDue = NoEarlier ws caller k place deleted inserted
-
-  -- a number that no earlier row gives is given only where none of them is due
-  none-due : (n : ℕ) → lacking n (callRows ws caller k) ≡ true →
-      lacking n (slotRows before place deleted inserted) ≡ true → (n ≡ 8 → ⊥) → (n ≡ 9 → ⊥) → out .0 .number ≡ n → NoneDue
-  unfolding editSlot
-  none-due n l r h i z =
-      let rows = slotRows before place deleted inserted in
-      let f = from-slot n l z in
-      let p = passed n rows (judged m x (edited before place deleted inserted)) r (f .number) in
-      let j = judged-passes m x (edited before place deleted inserted) n h i (p .1) in
-      record {
-        call = f .entry;
-        slot = same-number (under-table rows (says 0 0) (p .0));
-        records = j .0;
-        groups = j .1;
-      }
-
-  -- and where none of them is due, the answer is that of the breaking
-  due-10 : NoneDue → out .0 ≡ asEdit (orElse 10 (noBreaking m x us) (says 0 (length (compose m x us))))
-  unfolding slotRows editSlot judged
-  due-10 h =
-      let rows = slotRows before place deleted inserted in
-      ap (λ (o : Outcome EditAnswer). o .0) (on-entering asEdit ws caller k here (h .call))
-      ∙ ap asEdit (under-table rows _ (passed 0 rows (says 0 0) refl (h .slot) .0) ∙ rw (h .records, h .groups))
-
-  by-breaking : (o : Option ℕ) → noBreaking m x us ≡ o →
-      out .0 ≡ asEdit (orElse 10 o (says 0 (length (compose m x us)))) →
-      ((out .0 .number ≡ 10) ↔ (Breakable → ⊥)) × ((out .0 .number ≡ 0) ↔ Breakable)
-  by-breaking none e a =
-      let b : Breakable = no-10-exactly m x us .0 e in
-      let z : out .0 .number ≡ 0 = ap (λ (c : EditAnswer). c .number) a in (
-        (λ t. absurd (omega (arith, t, z)), λ f. absurd (f b)),
-        (λ t. b, λ b. z),
-      )
-  by-breaking (some i) e a =
-      let f : Breakable → ⊥ = answer-10 m x us i e .0 in
-      let z : out .0 .number ≡ 10 = ap (λ (c : EditAnswer). c .number) a in (
-        (λ t. f, λ f. z),
-        (λ t. absurd (omega (arith, t, z)), λ b. absurd (f b)),
-      )
-
-  exactly : NoneDue → ((out .0 .number ≡ 10) ↔ (Breakable → ⊥)) × ((out .0 .number ≡ 0) ↔ Breakable)
-  exactly h = by-breaking (noBreaking m x us) refl (due-10 h)
-
-  -- so 10 is given exactly where no earlier answer is due and no choice of permitted breaks fits the measure, and 0
-  -- exactly where none is due and one does
-  pub exactly-10 : (out .0 .number ≡ 10) ↔ (NoneDue × (Breakable → ⊥))
-  unfolding callRows slotRows
-  exactly-10 = (
-    λ z. let e = none-due 10 refl refl (λ t. omega (arith, t)) (λ t. omega (arith, t)) z in (e, exactly e .0 .0 z),
-    λ h. exactly (h .0) .0 .1 (h .1),
-  )
-
-  pub exactly-0 : (out .0 .number ≡ 0) ↔ (NoneDue × Breakable)
-  unfolding callRows slotRows
-  exactly-0 = (
-    λ z. let e = none-due 0 refl refl (λ t. omega (arith, t)) (λ t. omega (arith, t)) z in (e, exactly e .1 .0 z),
-    λ h. exactly (h .0) .1 .1 (h .1),
-  )

@@ -1,7 +1,8 @@
--- What is proved of the calls on a sheet, in reading order: each claim is proved by one citation. All but the last speak
--- of runs of the calls themselves, defined over their contracts in proofs/Runs.antt; what demand 3 says of a sequence of
--- runs is proofs/Booked.antt. The other words of the claims are defined in specs/Book.antt and specs/Meanings.antt; the
--- rules in crate `rules`, whose own proofs/Claims.antt has what is proved of them alone. Assumes nothing.
+-- What is proved of the calls on a sheet, in reading order: each claim is proved by one citation. All but the last
+-- speak of runs of the calls themselves, defined over their contracts in proofs/Runs.antt; what demand 3 says of a
+-- sequence of runs is proofs/Booked.antt. The other words of the claims are defined in specs/Book.antt and
+-- specs/Meanings.antt; the rules in crate `rules`, whose own proofs/Claims.antt has what is proved of them alone.
+-- Assumes nothing.
 use mathlib.Core.Path.{_≡_}
 use Prim.Native.Nat.{ℕ, _*_}
 use mathlib.Core.List.{List, []}
@@ -26,7 +27,8 @@ use Rattle.sheet.proofs.Runs.{EditRun, caller, slot, place, deleted, in
 use Rattle.sheet.proofs.Runs.{Run, call, before, after, reply, Chained}
 use Rattle.sheet.proofs.Told.{told}
 use Rattle.sheet.proofs.RunLaws.{run-unchanged, run-length, run-alike, run-frame, read-lines, read-nothing}
-use Rattle.sheet.proofs.RunLaws.{read-kept, run-splices, run-found-0, run-0, run-10, run-10-place, run-rubies, run-read}
+use Rattle.sheet.proofs.RunLaws.{read-kept}
+use Rattle.sheet.proofs.EditRuns.{run-splices, run-found-0, run-0, run-10, run-10-place, run-rubies, run-read}
 use Rattle.sheet.proofs.Booked.{Begun, AsBooked}
 use Rattle.sheet.proofs.Histories.{as-booked}
 use Rattle.sheet.proofs.setting.set_up.Statement as set-up-contract

@@ -106,7 +106,8 @@ module _ (b : List BookSlot) (h : All Sound b) (k : ℕ) (within : k < length b)
       (sym (ap encode (set-split b k t within) ∙ encode-append (take k b) (t ∷ drop (suc k) b)))
 
 -- the clinic of any slot, also past the end
-pub clinic-of : (b : List BookSlot) → All Sound b → (k : ℕ) → clinicOf (slotAt (encode b) k) ≡ bookAt b k .setting .clinic
+pub clinic-of : (b : List BookSlot) → All Sound b → (k : ℕ) →
+    clinicOf (slotAt (encode b) k) ≡ bookAt b k .setting .clinic
 clinic-of b h k =
     elim (ordered k (length b)) [
       | inl w ↦

@@ -2,80 +2,21 @@
 use mathlib.Core.Path.{_≡_, refl, sym, ap, subst, _∙_}
 use Prim.Native.Nat.{ℕ, _<_}
 use native.Mathlib.Omega.{arith}
-use mathlib.Core.Bool.{true, false, not, _||_}
 use mathlib.Core.List.{List, [], _∷_, _++_, map, map-append}
-use lib.Dec.{eqb}
 use lib.ListN.{length}
-use borrow.Author.Tests.{eq-eqb, ne-eqb}
 use denote.Ref.{now}
-use Rattle.rules.specs.Records.{recordWords}
-use Rattle.rules.specs.Sheet.{clinicOf, lengthOk, slotCount, slotAt, withSlot}
-use Rattle.rules.specs.Refusals.{Answer, says, EditAnswer, asEdit, Outcome, judged, called, editSlot}
-use Rattle.rules.specs.Refusals.{setUpAnswer, setUp}
-use Rattle.sheet.specs.Book.{SlotCall, edits, Call, call-on, Reply, set-up-reply, edit-reply, numberOf}
-use Rattle.sheet.specs.Book.{refusal, inSlot, step, BookSlot, bookAt, freshSlot, encodeSlot, inWords, runBook}
-use Rattle.sheet.specs.declared.Clinic.{Clinic}
-use Rattle.sheet.specs.declared.SlotNumber.{SlotNumber}
+use Rattle.rules.specs.Sheet.{slotCount, slotAt}
+use Rattle.rules.specs.Refusals.{Answer, says, Outcome, setUpAnswer, setUp}
+use Rattle.sheet.specs.Book.{Reply, set-up-reply, numberOf, step}
+use Rattle.sheet.specs.Book.{BookSlot, bookAt, encodeSlot, inWords, runBook}
 use Rattle.sheet.proofs.Tables.{same-number}
-use Rattle.sheet.proofs.Entry.{called-0}
-use Rattle.sheet.proofs.OnSlot.{on-entering, on-slot}
-use Rattle.sheet.proofs.Encode.{Sound, WellFormed, all-at, slot-of}
-use Rattle.sheet.proofs.Slots.{single-edit, single-is}
-use Rattle.sheet.proofs.SlotCalls.{keeps}
+use Rattle.sheet.proofs.Encode.{WellFormed, all-at, slot-of}
 use Rattle.sheet.proofs.Sequences.{begins-book, refused-book, remains, whole-sequence, restarts, never-4}
 use Rattle.sheet.proofs.Frame.{refused-unchanged, step-length}
 use Rattle.sheet.proofs.Runs.{SetUpRun, Run, set-up-run, call, before, after, reply, Chained, final}
 use Rattle.sheet.proofs.Told.{told, runs-are}
 use Rattle.sheet.proofs.Booked.{booked, BySingleEdit, Begun, accepted-first, refused-first, AsBooked}
-
--- The single edit ---------------------------------------------------------------------------------------------------
-
-module _ (s : BookSlot) (h : Sound s) where
-  abbrev all : SlotCall
-  all = edits 0 0 (recordWords (s .records))
-
-  abbrev answer : Answer
-  answer = judged (s .setting .measure) (s .setting .indent) (s .records)
-
-  in-fresh : inSlot all (freshSlot s) ≡ (edit-reply (asEdit answer), encodeSlot s)
-  in-fresh = ap (λ (o : Outcome EditAnswer). (edit-reply (o .0), o .1)) (single-edit s h)
-
-  -- the edit call, on a sheet with a fresh slot j
-  module _ (vs : List ℕ) (c : Clinic) (j : SlotNumber) (ok : lengthOk (length vs) ≡ true) (within : j .0 < slotCount vs)
-    where
-      entered-by : slotAt vs (j .0) ≡ freshSlot s → c .0 ≡ s .setting .clinic → (c .0 ≡ 0 → ⊥) →
-          called vs (c .0) (j .0) .number ≡ 0
-      entered-by e own known =
-          let entry : eqb (c .0) 0 || not (eqb (c .0) (clinicOf (slotAt vs (j .0)))) ≡ false
-          = rw (e, ne-eqb _ _ known, eq-eqb (c .0) (s .setting .clinic) own) in
-          same-number (called-0 vs (c .0) (j .0) ok within entry)
-
-      call-edits : slotAt vs (j .0) ≡ freshSlot s → called vs (c .0) (j .0) .number ≡ 0 →
-          let o = step (call-on c j all) vs in
-          (numberOf (o .0) ≡ 0) × (slotAt (o .1) (j .0) ≡ encodeSlot s)
-      call-edits e z =
-          let f = ap (inSlot all) e ∙ in-fresh in (
-            ap (λ (o : Outcome Reply). numberOf (o .0)) (on-entering (refusal all) vs (c .0) (j .0) (inSlot all) z)
-                ∙ ap (λ (o : Outcome Reply). numberOf (o .0)) f
-                ∙ h .right,
-            on-slot (refusal all) vs (c .0) (j .0) (inSlot all) (keeps all .whole) z
-                ∙ ap (λ (o : Outcome Reply). o .1) f,
-          )
-
-  by-single-edit : BySingleEdit s (encodeSlot s)
-  by-single-edit =
-      record {
-        slot = sym (single-is s h);
-        unassigned = h .unassigned;
-        by-run = λ r c j e own known ok within f.
-            let t : _≡_ {A = Outcome Reply} (reply r, after r) (step (call-on c j all) (before r)) = rw e at (told r) in
-            let y = call-edits (before r) c j ok within f (entered-by (before r) c j ok within f own known) in (
-              ap (λ (o : Outcome Reply). numberOf (o .0)) t ∙ y .0,
-              ap (λ (o : Outcome Reply). slotAt (o .1) (j .0)) t ∙ y .1,
-            );
-      }
-
--- The sequence ------------------------------------------------------------------------------------------------------
+use Rattle.sheet.proofs.SingleEdits.{by-single-edit}
 
 -- no run changes the sheet's length
 final-length : (rs : List Run) (ws : List ℕ) → Chained ws rs → length (final ws rs) ≡ length ws

@@ -7,6 +7,7 @@ pub mod Parts
 pub mod OnSlot
 pub mod Alike
 pub mod Reading
+pub mod ReadOnSlot
 pub mod Lists
 pub mod Fresh
 pub mod Words
@@ -20,9 +21,12 @@ pub mod Stays
 pub mod Sequences
 pub mod Frame
 pub mod Changes
+pub mod Exactly
 pub mod Runs
 pub mod Told
 pub mod RunLaws
+pub mod EditRuns
 pub mod Booked
+pub mod SingleEdits
 pub mod Histories
 pub mod Claims

@@ -12,7 +12,8 @@ use lib.Dec.{eqb}
 use lib.ListN.{length, getD}
 use borrow.Author.Tests.{eqb-true, eq-eqb, ne-eqb, not-false}
 use Rattle.rules.specs.Sheet.{slotLimitsOk, lengthOk}
-use Rattle.rules.specs.Refusals.{Answer, says, Outcome, orElse, settingAt, badSlot, freshSlots, setUpRows, setUpAnswer, setUp}
+use Rattle.rules.specs.Refusals.{Answer, says, Outcome, orElse, settingAt, badSlot, freshSlots}
+use Rattle.rules.specs.Refusals.{setUpRows, setUpAnswer, setUp}
 use Rattle.rules.proofs.Facts.{tested}
 use Rattle.sheet.specs.Lists.{Matched}
 use Rattle.sheet.proofs.Tables.{same-number}

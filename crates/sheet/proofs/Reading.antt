@@ -1,5 +1,5 @@
 -- Laws of a read: its number, and the words that it hands back. Assumes nothing.
-use mathlib.Core.Path.{_≡_, refl, sym, ap, _∙_}
+use mathlib.Core.Path.{_≡_, refl, sym, _∙_}
 use Prim.Native.Nat.{ℕ, _+_, _-_, _*_, _≤_, _<_}
 use native.Mathlib.Omega.{arith}
 use mathlib.Core.Bool.{Bool, true, false, cond}
@@ -11,14 +11,12 @@ use lib.Seq.{length-take-le}
 use borrow.Author.Tests.{ltb-false, lt-ltb, le-ltb}
 use borrow.Author.Tests.{eqb-true, eqb-false, eq-eqb, ne-eqb}
 use Rattle.rules.specs.Basics.{within, firstOf}
-use Rattle.rules.specs.Sheet.{lineCountOf, slotAt, withSlot}
-use Rattle.rules.specs.Refusals.{says, Outcome, callRows, called, onSlot}
+use Rattle.rules.specs.Sheet.{lineCountOf, slotAt}
+use Rattle.rules.specs.Refusals.{says, callRows, called}
 use Rattle.rules.specs.Refusals.{readRows, readNumber, readStart, readLength, readPart, readWords}
 use Rattle.rules.proofs.Facts.{tested}
-use Rattle.sheet.specs.Book.{Reply, read-reply, reads, refusal, readSlot, inSlot}
 use Rattle.sheet.proofs.Tables.{same-number, then-table}
 use Rattle.sheet.proofs.Lengths.{whole}
-use Rattle.sheet.proofs.Parts.{put-back}
 use Rattle.sheet.proofs.Entry.{word-at, part-of-slot, Entered, entered}
 
 module _ (ws : List ℕ) (caller k : ℕ) where
@@ -32,10 +30,16 @@ module _ (ws : List ℕ) (caller k : ℕ) where
   pub number-refused : (n : ℕ) → n ≡ called ws caller k .number → (n ≡ 0 → ⊥) → n ≡ readNumber ws caller k
   number-refused n e z = rw (number-by, ← e, ne-eqb n 0 z)
 
+  -- past the rows 1 to 3 it is the slot's own
+  pub number-in-slot : called ws caller k .number ≡ 0 →
+      readNumber ws caller k ≡ firstOf (readRows (slotAt ws k)) (says 0 0) .number
+  number-in-slot z = rw (number-by, eq-eqb _ _ z)
+
   pub number-entered : called ws caller k .number ≡ 0 →
       readNumber ws caller k ≡ cond (ltb 256 (getD ws (2824 * k + 4) 0)) 4 0
   unfolding readRows
-  number-entered z = rw (number-by, eq-eqb _ _ z, word-at ws k 4 (omega arith)) (by-row (ltb 256 (getD ws (2824 * k + 4) 0)))
+  number-entered z =
+      rw (number-in-slot z, word-at ws k 4 (omega arith)) (by-row (ltb 256 (getD ws (2824 * k + 4) 0)))
     where
       by-row : (t : Bool) → cond t (says 4 0) (says 0 0) .number ≡ cond t 4 0
       by-row true = refl
@@ -144,28 +148,3 @@ module _ (ws : List ℕ) (caller k : ℕ) where
       let n : readStart ws caller k + readLength ws caller k - readStart ws caller k ≡ readLength ws caller k
       = omega arith in
       rw n
-
-  -- a read and its companion together are a call on the slot
-  pub read-on-slot : _≡_ {A = Outcome Reply} (read-reply (readNumber ws caller k) (readWords ws caller k), ws)
-      (onSlot (refusal reads) ws caller k (inSlot reads))
-  unfolding onSlot
-  read-on-slot =
-      elim (tested (eqb (called ws caller k .number) 0)) [
-        | inl e ↦ rw e (ap (λ r. (r, ws)) (entered-reply (eqb-true _ _ e)) ∙ ap (λ w. (readSlot (slotAt ws k), w)) (sym (put-back ws k)))
-        | inr e ↦
-            let z = number-refused _ refl (eqb-false _ _ e) in
-            rw (e, ← z, read-none (λ y. eqb-false _ _ e (z ∙ y)))
-      ]
-    where
-      number-in : called ws caller k .number ≡ 0 → readNumber ws caller k ≡ firstOf (readRows (slotAt ws k)) (says 0 0) .number
-      number-in z = rw (number-by, eq-eqb _ _ z)
-
-      entered-reply : called ws caller k .number ≡ 0 →
-          read-reply (readNumber ws caller k) (readWords ws caller k) ≡ readSlot (slotAt ws k)
-      entered-reply z =
-          let n = number-in z in
-          elim (tested (eqb (readNumber ws caller k) 0)) [
-            | inl e ↦
-                rw (← n, e, read-slot (eqb-true _ _ e))
-            | inr e ↦ rw (← n, e, read-none (eqb-false _ _ e))
-          ]

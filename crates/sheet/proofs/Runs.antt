@@ -1,6 +1,6 @@
--- Runs of the calls themselves, of which the claims speak. A run of a call is its arguments, its result, its parameters
--- at exit, and what the call's own contract promises of these: `edit-reads.Learnt` and the like are what Rattle reads
--- of the contracts in src/. So a change of a contract changes the claims. Assumes nothing.
+-- Runs of the calls themselves, of which the claims speak. A run of a call is its arguments, its result, its
+-- parameters at exit, and what the call's own contract promises of these: `edit-reads.Learnt` and the like are what
+-- Rattle reads of the contracts in src/. So a change of a contract changes the claims. Assumes nothing.
 use mathlib.Core.Path.{_≡_}
 use Prim.Native.Nat.{ℕ, _-_}
 use mathlib.Core.List.{List, [], _∷_}
@@ -78,33 +78,33 @@ module _ (u : EditRun) where
   abbrev pub slotAfter : List ℕ
   slotAfter = slotAt (now (u .exit .0)) (slot .0)
 
--- two calls one after the other, in either order, of which one finds the sheet p and leaves it q, and the other finds r
--- and leaves s: the sheet before both, and after both
+-- two calls one after the other, in either order, of which one finds the sheet p and leaves it q, and the other finds
+-- r and leaves s: the sheet before both, and after both
 pub data InTurn (p q r s : List ℕ) : List ℕ → List ℕ → Type 0 where
   the-one-first : q ≡ r → InTurn p q r s p s
   the-other-first : s ≡ p → InTurn p q r s r q
 
--- a read and its companion, told the same things
+-- two such calls, of a caller c on slot j and of a caller d on slot k, that were told the same things
+pub record Together (p q r s : List ℕ) (c d : Clinic) (j k : SlotNumber) : Type 0 where
+  pub found : List ℕ
+  pub left : List ℕ
+  pub in-turn : InTurn p q r s found left
+  pub same-caller : d ≡ c
+  pub same-slot : k ≡ j
+
+-- a read and its companion
 pub record ReadRun : Type 0 where
   pub part : SliceRun
   pub number : NumberRun
-  pub found : List ℕ
-  pub left : List ℕ
-  pub in-turn : InTurn (now (part .args .0)) (now (part .exit .0)) (now (number .args .0)) (now (number .exit .0)) found
-      left
-  pub same-caller : number .args .1 .0 ≡ part .args .1 .0
-  pub same-slot : number .args .1 .1 .0 ≡ part .args .1 .1 .0
+  pub together : Together (now (part .args .0)) (now (part .exit .0)) (now (number .args .0)) (now (number .exit .0))
+      (part .args .1 .0) (number .args .1 .0) (part .args .1 .1 .0) (number .args .1 .1 .0)
 
 -- the same where the part is told by its start and end
 pub record ReadPartRun : Type 0 where
   pub part : PartRun
   pub number : NumberRun
-  pub found : List ℕ
-  pub left : List ℕ
-  pub in-turn : InTurn (now (part .args .0)) (now (part .exit .0)) (now (number .args .0)) (now (number .exit .0)) found
-      left
-  pub same-caller : number .args .1 .0 ≡ part .args .1 .0
-  pub same-slot : number .args .1 .1 .0 ≡ part .args .1 .1 .0
+  pub together : Together (now (part .args .0)) (now (part .exit .0)) (now (number .args .0)) (now (number .exit .0))
+      (part .args .1 .0) (number .args .1 .0) (part .args .1 .1 .0) (number .args .1 .1 .0)
 
 pub data Run : Type 0 where
   set-up-run : SetUpRun → Run
@@ -122,14 +122,14 @@ call (read-part-run u) = call-on (u .part .args .1 .0) (u .part .args .1 .1 .0) 
 abbrev pub before : Run → List ℕ
 before (set-up-run u) = now (u .args .0)
 before (edit-run u) = now (u .args .0)
-before (read-run u) = u .found
-before (read-part-run u) = u .found
+before (read-run u) = u .together .found
+before (read-part-run u) = u .together .found
 
 abbrev pub after : Run → List ℕ
 after (set-up-run u) = now (u .exit .0)
 after (edit-run u) = now (u .exit .0)
-after (read-run u) = u .left
-after (read-part-run u) = u .left
+after (read-run u) = u .together .left
+after (read-part-run u) = u .together .left
 
 -- the words from `start` up to `end`
 abbrev pub between : ℕ → ℕ → List ℕ → List ℕ
@@ -140,7 +140,7 @@ reply (set-up-run u) = set-up-reply (says (u .result .number) (u .result .place)
 reply (edit-run u) = edit-reply (answer u)
 reply (read-run u) = read-reply (u .number .result) (now (u .part .result))
 reply (read-part-run u) =
-    read-reply (u .number .result) (between (u .part .result .start) (u .part .result .end) (u .left))
+    read-reply (u .number .result) (between (u .part .result .start) (u .part .result .end) (u .together .left))
 
 -- Sequences of runs -------------------------------------------------------------------------------------------------
 

@@ -13,13 +13,13 @@ use Rattle.rules.specs.Groups.{units}
 use Rattle.rules.specs.Adjustment.{compose}
 use Rattle.rules.specs.Refusals.{Answer, EditAnswer, Outcome, editSlot, readRows}
 use Rattle.rules.proofs.Lengths.{composed-few}
-use Rattle.sheet.specs.Book.{SlotCall, edits, reads, Reply, edit-reply, read-reply, numberOf, refusal, inSlot, readSlot}
+use Rattle.sheet.specs.Book.{SlotCall, edits, reads, edit-reply, read-reply, numberOf, refusal, readSlot, inSlot}
 use Rattle.sheet.specs.Book.{BookSlot, bookEditRows, bookEdit, bookLines, inBook, encodeSlot}
 use Rattle.sheet.proofs.Tables.{passed}
 use Rattle.sheet.proofs.OnSlot.{KeepsLength, RefusesUnchanged}
 use Rattle.sheet.proofs.Words.{slot-line-count, slot-lines}
 use Rattle.sheet.proofs.Encode.{Sound}
-use Rattle.sheet.proofs.Slots.{slotAnswer, edited-sound, slot-edits}
+use Rattle.sheet.proofs.Slots.{bookAnswer, edited-sound, slot-edits}
 use Rattle.sheet.proofs.SlotChanges.{length-edit-slot, slot-refused}
 use Rattle.sheet.proofs.AnswerFour.{judged-not-4}
 
@@ -46,7 +46,7 @@ keeps-edit place deleted inserted =
       booked = λ s h.
           ap (λ (o : Outcome EditAnswer). (edit-reply (o .0), o .1)) (slot-edits s h place deleted inserted);
       sound = λ s h c. edited-sound place deleted inserted s h c;
-      book-unchanged = λ s z. rw (ne-eqb (slotAnswer place deleted inserted s .number) 0 z);
+      book-unchanged = λ s z. rw (ne-eqb (bookAnswer place deleted inserted s .number) 0 z);
       never-4 = λ s e. judged-not-4 _ _ _ (passed 4 (bookEditRows place deleted inserted s) _ refl e .1);
     }
 

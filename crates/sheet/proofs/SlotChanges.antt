@@ -1,5 +1,5 @@
--- What an edit does to a slot of any words: that it keeps the slot's length, that a refused one changes nothing, what an
--- accepted one leaves, and what its answer says of the new records. Assumes nothing.
+-- What an edit does to a slot of any words: that it keeps the slot's length, that a refused one changes nothing, what
+-- an accepted one leaves, and what its answer says of the new records. Assumes nothing.
 use mathlib.Core.Path.{_≡_, refl, sym, ap, _∙_}
 use Prim.Native.Nat.{ℕ, _+_, _-_, _*_, _/_, _%_, _≤_}
 use native.Mathlib.Omega.{arith}
@@ -76,7 +76,8 @@ module _ (s : List ℕ) (place deleted : ℕ) (inserted : List ℕ) where
       let a = judged-0 (measureOf s) (indentOf s) new (same-number (sym j) ∙ z) .1 in
       rw (eq-eqb _ _ z) (ap (λ (o : Answer). (asEdit o, composed)) (j ∙ a))
 
-  pub slot-spliced : {o : Outcome EditAnswer} → Judged → _≡_ {A = Outcome EditAnswer} o (editSays 0 lineCount, composed) →
+  pub slot-spliced : {o : Outcome EditAnswer} → Judged →
+      _≡_ {A = Outcome EditAnswer} o (editSays 0 lineCount, composed) →
       Spliced s (o .1) (o .0) place deleted inserted
   slot-spliced j e =
       rw e

@@ -13,7 +13,8 @@ use borrow.Author.Tests.{ltb-false, le-leb, le-ltb, eqb-true, eq-eqb}
 use Rattle.rules.specs.Basics.{firstOf}
 use Rattle.rules.specs.Records.{Rec, records, recordWords}
 use Rattle.rules.specs.Sheet.{slotWords, measureOf, indentOf, settingOf, limitsOk}
-use Rattle.rules.specs.Refusals.{Answer, EditAnswer, asEdit, Outcome, judged, sound, splice, edited, slotRows, editSlot}
+use Rattle.rules.specs.Refusals.{Answer, EditAnswer, asEdit, Outcome, judged, sound, splice, edited, slotRows}
+use Rattle.rules.specs.Refusals.{editSlot}
 use Rattle.rules.proofs.Facts.{tested}
 use Rattle.rules.proofs.Limits.{and-right}
 use Rattle.sheet.specs.Book.{BookSlot, withRecords, bookEditRows, bookEdited}
@@ -47,22 +48,22 @@ splice-few rs place deleted ws p q =
 -- The book's edit of one slot ---------------------------------------------------------------------------------------
 
 -- its answer by the rows 5 to 10
-abbrev pub slotAnswer : ℕ → ℕ → List ℕ → BookSlot → Answer
-slotAnswer place deleted inserted s =
+abbrev pub bookAnswer : ℕ → ℕ → List ℕ → BookSlot → Answer
+bookAnswer place deleted inserted s =
     let t = bookEdited place deleted inserted s in
     firstOf (bookEditRows place deleted inserted s) (judged (t .setting .measure) (t .setting .indent) (t .records))
 
 -- the slot afterwards
-abbrev pub slotAfter : ℕ → ℕ → List ℕ → BookSlot → BookSlot
-slotAfter place deleted inserted s =
-    cond (eqb (slotAnswer place deleted inserted s .number) 0) (bookEdited place deleted inserted s) s
+abbrev pub bookAfter : ℕ → ℕ → List ℕ → BookSlot → BookSlot
+bookAfter place deleted inserted s =
+    cond (eqb (bookAnswer place deleted inserted s .number) 0) (bookEdited place deleted inserted s) s
 
 -- an edit of an assigned slot leaves a sound slot
 pub edited-sound : (place deleted : ℕ) (inserted : List ℕ) (s : BookSlot) → Sound s → (s .setting .clinic ≡ 0 → ⊥) →
-    Sound (slotAfter place deleted inserted s)
+    Sound (bookAfter place deleted inserted s)
 unfolding bookEdited bookEditRows
 edited-sound place deleted inserted s h assigned =
-    elim (tested (eqb (slotAnswer place deleted inserted s .number) 0)) [
+    elim (tested (eqb (bookAnswer place deleted inserted s .number) 0)) [
       | inl e ↦
           let p = passed 0 (bookEditRows place deleted inserted s) _ refl (eqb-true _ _ e) in
           rw e
@@ -85,13 +86,14 @@ module _ (s : BookSlot) (h : Sound s) where
   sound-words : sound words ≡ true
   unfolding sound
   sound-words =
-      let l = and-right (leb (s .setting .clinic) 65535) (limitsOk (s .setting .measure) (s .setting .indent)) (h .limits) in
+      let t = s .setting in
+      let l = and-right (leb (t .clinic) 65535) (limitsOk (t .measure) (t .indent)) (h .limits) in
       rw (slot-records, slot-measure, slot-indent, slot-count, l, le-leb _ _ (h .few), eq-eqb _ _ (h .right))
 
   module _ (place deleted : ℕ) (inserted : List ℕ) where
     same-answer : firstOf (slotRows words place deleted inserted)
         (judged (measureOf words) (indentOf words) (edited words place deleted inserted))
-        ≡ slotAnswer place deleted inserted s
+        ≡ bookAnswer place deleted inserted s
     unfolding slotRows bookEditRows bookEdited
     same-answer = rw (sound-words, slot-records, slot-measure, slot-indent, slot-count)
 
@@ -103,10 +105,10 @@ module _ (s : BookSlot) (h : Sound s) where
         ∙ rw slot-records
 
     pub slot-edits : editSlot words place deleted inserted
-        ≡ (asEdit (slotAnswer place deleted inserted s), encodeSlot (slotAfter place deleted inserted s))
+        ≡ (asEdit (bookAnswer place deleted inserted s), encodeSlot (bookAfter place deleted inserted s))
     unfolding editSlot
     slot-edits =
-        let a = slotAnswer place deleted inserted s in
+        let a = bookAnswer place deleted inserted s in
         rw (same-answer, same-words)
         (ap (λ w. (asEdit a, w)) (elim (tested (eqb (a .number) 0)) [ inl e ↦ rw e | inr e ↦ rw e ]))
 
@@ -126,7 +128,7 @@ module _ (s : BookSlot) (h : Sound s) where
   unfolding bookEdited splice
   edited-all = rw (records-again, append-nil)
 
-  answer-all : slotAnswer 0 0 all empty ≡ answer
+  answer-all : bookAnswer 0 0 all empty ≡ answer
   unfolding bookEditRows
   answer-all =
       let n = length-record-words (s .records) in

@@ -1,5 +1,5 @@
--- The book stays well-formed: after an accepted set-up, and after each call from then on; and answer 4 does not come up
--- in it. Assumes nothing.
+-- The book stays well-formed: after an accepted set-up, and after each call from then on; and answer 4 does not come
+-- up in it. Assumes nothing.
 use mathlib.Core.Path.{_≡_, refl, ap, _∙_}
 use Prim.Native.Nat.{ℕ, _/_}
 use native.Mathlib.Omega.{arith}

@@ -11,10 +11,12 @@ use Rattle.sheet.specs.Book.{Reply, set-up-reply, edit-reply, read-reply
 use Rattle.sheet.specs.declared.Clinic.{Clinic}
 use Rattle.sheet.specs.declared.SlotNumber.{SlotNumber}
 use Rattle.sheet.proofs.OnSlot.{on-reply}
-use Rattle.sheet.proofs.Reading.{part-words, read-on-slot}
-use Rattle.sheet.proofs.Runs.{InTurn, the-one-first, the-other-first, ReadRun, ReadPartRun, Run, set-up-run}
-use Rattle.sheet.proofs.Runs.{caller, slot, place, deleted, inserted, edit-run, read-run, read-part-run, call, before, after, between, reply}
-use Rattle.sheet.proofs.Runs.{Chained, final}
+use Rattle.sheet.proofs.Reading.{part-words}
+use Rattle.sheet.proofs.ReadOnSlot.{read-on-slot}
+use Rattle.sheet.proofs.Runs.{caller, slot, place, deleted, inserted}
+use Rattle.sheet.proofs.Runs.{InTurn, the-one-first, the-other-first, ReadRun, ReadPartRun}
+use Rattle.sheet.proofs.Runs.{Run, set-up-run, edit-run, read-run, read-part-run}
+use Rattle.sheet.proofs.Runs.{call, before, after, between, reply, Chained, final}
 
 -- Reads -------------------------------------------------------------------------------------------------------------
 
@@ -34,23 +36,25 @@ slice-told : (u : ReadRun) → _≡_ {A = Outcome Reply} (reply (read-run u), af
     (step (call (read-run u)) (before (read-run u)))
 slice-told u =
     let a = u .part .args in
-    let t = in-turn (u .in-turn) (u .part .learnt .1 .1 .1) (u .number .learnt .1) in
+    let o = u .together in
+    let t = in-turn (o .in-turn) (u .part .learnt .1 .1 .1) (u .number .learnt .1) in
     read-told (a .1 .0) (a .1 .1 .0) (t .2)
-    (rw (u .same-caller, u .same-slot, t .1) at (u .number .learnt .0))
+    (rw (o .same-caller, o .same-slot, t .1) at (u .number .learnt .0))
     (rw (t .0) at (u .part .learnt .0))
 
 part-told : (u : ReadPartRun) → _≡_ {A = Outcome Reply} (reply (read-part-run u), after (read-part-run u))
     (step (call (read-part-run u)) (before (read-part-run u)))
 part-told u =
     let a = u .part .args in
-    let t = in-turn (u .in-turn) (u .part .learnt .1) (u .number .learnt .1) in
-    let p : _≡_ {A = ℕ × ℕ} (u .part .result .start, u .part .result .end) (readPart (u .found) (a .1 .0 .0) (a .1 .1 .0 .0))
-    = rw (t .0) at (u .part .learnt .0) in
+    let o = u .together in
+    let t = in-turn (o .in-turn) (u .part .learnt .1) (u .number .learnt .1) in
+    let part : ℕ × ℕ = readPart (o .found) (a .1 .0 .0) (a .1 .1 .0 .0) in
+    let p : _≡_ {A = ℕ × ℕ} (u .part .result .start, u .part .result .end) part = rw (t .0) at (u .part .learnt .0) in
     read-told (a .1 .0) (a .1 .1 .0) (t .2)
-    (rw (u .same-caller, u .same-slot, t .1) at (u .number .learnt .0))
-    (ap (λ (q : ℕ × ℕ). between (q .0) (q .1) (u .left)) p
-    ∙ ap (λ w. let q = readPart (u .found) (a .1 .0 .0) (a .1 .1 .0 .0) in between (q .0) (q .1) w) (t .2)
-    ∙ part-words (u .found) (a .1 .0 .0) (a .1 .1 .0 .0))
+    (rw (o .same-caller, o .same-slot, t .1) at (u .number .learnt .0))
+    (ap (λ (q : ℕ × ℕ). between (q .0) (q .1) (o .left)) p
+    ∙ ap (between (part .0) (part .1)) (t .2)
+    ∙ part-words (o .found) (a .1 .0 .0) (a .1 .1 .0 .0))
 
 -- Any run -----------------------------------------------------------------------------------------------------------
 

@@ -106,7 +106,8 @@ module _ (t : Setting) (rs : List Rec) where
 
     length-fourth : length fourth ≡ 768
     length-fourth =
-        length-padded 768 (lineWords 0 lines) (omega (arith, length-lineWords 0 lines, composed-few (t .measure) (t .indent) rs))
+        let few-lines = composed-few (t .measure) (t .indent) rs in
+        length-padded 768 (lineWords 0 lines) (omega (arith, length-lineWords 0 lines, few-lines))
 
     length-three : length (first ++ second ++ third) ≡ 2056
     length-three =

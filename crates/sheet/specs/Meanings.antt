@@ -45,8 +45,8 @@ abbrev pub AlikeFor : Call → List ℕ → List ℕ → Type 0
 AlikeFor (call-set-up cs ms xs) ws vs = length ws ≡ length vs
 AlikeFor (call-on c k q) ws vs = Alike (c .0) (k .0) ws vs
 
--- what a call with reply a leaves of a sheet ws and of another that was alike for it: an accepted set-up leaves the two
--- sheets the same, a call on a slot the slot, where the caller is its clinic
+-- what a call with reply a leaves of a sheet ws and of another that was alike for it: an accepted set-up leaves the
+-- two sheets the same, a call on a slot the slot, where the caller is its clinic
 abbrev pub LeftAlike : Call → Reply → List ℕ → List ℕ → List ℕ → Type 0
 LeftAlike (call-set-up cs ms xs) a ws left right = numberOf a ≡ 0 → left ≡ right
 LeftAlike (call-on c k q) a ws left right =

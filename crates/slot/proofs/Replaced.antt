@@ -24,7 +24,8 @@ use Rattle.compose.specs.Composed.{Composed}
 use Rattle.slot.specs.Slot.{headOf, replaced, Replaceable}
 
 pub refused-slot : (s : List ℕ) (rs : List Rec) (number place : ℕ) → (number ≡ 0 → ⊥) →
-    judged (measureOf s) (indentOf s) rs ≡ says number place → _≡_ {A = Outcome Answer} (says number place, s) (replaced s rs)
+    judged (measureOf s) (indentOf s) rs ≡ says number place →
+    _≡_ {A = Outcome Answer} (says number place, s) (replaced s rs)
 unfolding replaced
 refused-slot s rs number place z e = rw (e, ne-eqb number 0 z)
 

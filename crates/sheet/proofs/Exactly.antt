@@ -1,0 +1,131 @@
+-- When an edit answers 0 and 10: exactly where no earlier answer is due, by whether a breaking exists.
+-- Assumes nothing.
+use mathlib.Core.Path.{_≡_, refl, sym, ap, _∙_}
+use Prim.Native.Nat.{ℕ}
+use native.Mathlib.Omega.{arith}
+use mathlib.Core.Bool.{true}
+use mathlib.Core.List.{List}
+use mathlib.Core.Logic.{_↔_}
+use mathlib.Core.Option.{Option, none, some}
+use lib.ListN.{length}
+use Rattle.rules.specs.Basics.{Run}
+use Rattle.rules.specs.Records.{Rec}
+use Rattle.rules.specs.Groups.{TextUnit, units}
+use Rattle.rules.specs.Breaks.{runs, noBreaking}
+use Rattle.rules.specs.Adjustment.{compose}
+use Rattle.rules.specs.Sheet.{measureOf, indentOf, slotAt}
+use Rattle.rules.specs.Refusals.{says, EditAnswer, asEdit, Outcome, orElse, judged, edited, slotRows}
+use Rattle.rules.specs.Refusals.{editSlot, callRows, onSlot}
+use Rattle.rules.specs.Meanings.{Choice, Fits, FirstWide}
+use Rattle.rules.proofs.Claims.{no-10-exactly, answer-10}
+use Rattle.rules.proofs.Judged.{judged-passes, judged-0, judged-10}
+use Rattle.sheet.specs.Meanings.{NoEarlier}
+use Rattle.sheet.proofs.Tables.{same-number, lacking, passed, under-table}
+use Rattle.sheet.proofs.OnSlot.{on-entering}
+use Rattle.sheet.proofs.SlotChanges.{slot-judged}
+use Rattle.sheet.proofs.Changes.{from-slot}
+
+module _ (ws : List ℕ) (caller k place deleted : ℕ) (inserted : List ℕ) where
+  abbrev before : List ℕ
+  before = slotAt ws k
+
+  abbrev m : ℕ
+  m = measureOf before
+
+  abbrev x : ℕ
+  x = indentOf before
+
+  abbrev new : List Rec
+  new = edited before place deleted inserted
+
+  abbrev us : List TextUnit
+  us = units new
+
+  abbrev here : List ℕ → Outcome EditAnswer
+  here s = editSlot s place deleted inserted
+
+  abbrev out : Outcome EditAnswer
+  out = onSlot asEdit ws caller k here
+
+  pub found-0 : out .0 .number ≡ 0 → noBreaking m x us ≡ none
+  unfolding callRows slotRows editSlot
+  found-0 z =
+      let f = from-slot ws caller k place deleted inserted 0 refl z in
+      let j = slot-judged before place deleted inserted 0 refl (f .number) .answer in
+      judged-0 m x _ (same-number (sym j) ∙ f .number) .0
+
+  -- the place of 10 is the first record of the first run that is too wide
+  pub place-10 : out .0 .number ≡ 10 → FirstWide m x (runs us) (out .0 .place)
+  unfolding callRows slotRows editSlot
+  place-10 z =
+      let f = from-slot ws caller k place deleted inserted 10 refl z in
+      let j = slot-judged before place deleted inserted 10 refl (f .number) .answer in
+      let a : out .0 ≡ asEdit (judged m x new) = f .answer ∙ ap asEdit j in
+      let e = judged-10 m x _ (same-number (sym j) ∙ f .number) in
+      answer-10 m x us (out .0 .place) (e ∙ ap (λ (b : EditAnswer). some (b .place)) (sym a)) .1
+
+  abbrev pub Breakable : Type 0
+  Breakable = (ls : List (Run TextUnit)) × Choice us ls × Fits m x ls
+
+  abbrev NoneDue : Type 0
+  NoneDue = NoEarlier ws caller k place deleted inserted
+
+  -- a number that no earlier row gives is given only where none of them is due
+  none-due : (n : ℕ) → lacking n (callRows ws caller k) ≡ true →
+      lacking n (slotRows before place deleted inserted) ≡ true → (n ≡ 8 → ⊥) → (n ≡ 9 → ⊥) →
+      out .0 .number ≡ n → NoneDue
+  unfolding editSlot
+  none-due n l r h i z =
+      let rows = slotRows before place deleted inserted in
+      let f = from-slot ws caller k place deleted inserted n l z in
+      let p = passed n rows (judged m x new) r (f .number) in
+      let j = judged-passes m x new n h i (p .1) in
+      record {
+        call = f .entry;
+        slot = same-number (under-table rows (says 0 0) (p .0));
+        records = j .0;
+        groups = j .1;
+      }
+
+  -- and where none of them is due, the answer is that of the breaking
+  due-10 : NoneDue → out .0 ≡ asEdit (orElse 10 (noBreaking m x us) (says 0 (length (compose m x us))))
+  unfolding slotRows editSlot judged
+  due-10 h =
+      let rows = slotRows before place deleted inserted in
+      ap (λ (o : Outcome EditAnswer). o .0) (on-entering asEdit ws caller k here (h .call))
+      ∙ ap asEdit (under-table rows _ (passed 0 rows (says 0 0) refl (h .slot) .0) ∙ rw (h .records, h .groups))
+
+  by-breaking : (o : Option ℕ) → noBreaking m x us ≡ o →
+      out .0 ≡ asEdit (orElse 10 o (says 0 (length (compose m x us)))) →
+      ((out .0 .number ≡ 10) ↔ (Breakable → ⊥)) × ((out .0 .number ≡ 0) ↔ Breakable)
+  by-breaking none e a =
+      let b : Breakable = no-10-exactly m x us .0 e in
+      let z : out .0 .number ≡ 0 = ap (λ (c : EditAnswer). c .number) a in (
+        (λ t. absurd (omega (arith, t, z)), λ f. absurd (f b)),
+        (λ t. b, λ b. z),
+      )
+  by-breaking (some i) e a =
+      let f : Breakable → ⊥ = answer-10 m x us i e .0 in
+      let z : out .0 .number ≡ 10 = ap (λ (c : EditAnswer). c .number) a in (
+        (λ t. f, λ f. z),
+        (λ t. absurd (omega (arith, t, z)), λ b. absurd (f b)),
+      )
+
+  exactly : NoneDue → ((out .0 .number ≡ 10) ↔ (Breakable → ⊥)) × ((out .0 .number ≡ 0) ↔ Breakable)
+  exactly h = by-breaking (noBreaking m x us) refl (due-10 h)
+
+  -- so 10 is given exactly where no earlier answer is due and no choice of permitted breaks fits the measure, and 0
+  -- exactly where none is due and one does
+  pub exactly-10 : (out .0 .number ≡ 10) ↔ (NoneDue × (Breakable → ⊥))
+  unfolding callRows slotRows
+  exactly-10 = (
+    λ z. let e = none-due 10 refl refl (λ t. omega (arith, t)) (λ t. omega (arith, t)) z in (e, exactly e .0 .0 z),
+    λ h. exactly (h .0) .0 .1 (h .1),
+  )
+
+  pub exactly-0 : (out .0 .number ≡ 0) ↔ (NoneDue × Breakable)
+  unfolding callRows slotRows
+  exactly-0 = (
+    λ z. let e = none-due 0 refl refl (λ t. omega (arith, t)) (λ t. omega (arith, t)) z in (e, exactly e .1 .0 z),
+    λ h. exactly (h .0) .1 .1 (h .1),
+  )

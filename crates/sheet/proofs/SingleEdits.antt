@@ -1,0 +1,71 @@
+-- The single edit of a sound slot's records: what it leaves, and that every run of it on a fresh slot is accepted and
+-- leaves that. Assumes nothing.
+use mathlib.Core.Path.{_≡_, sym, ap, _∙_}
+use Prim.Native.Nat.{ℕ, _<_}
+use mathlib.Core.Bool.{true, false, not, _||_}
+use mathlib.Core.List.{List}
+use lib.Dec.{eqb}
+use lib.ListN.{length}
+use borrow.Author.Tests.{eq-eqb, ne-eqb}
+use Rattle.rules.specs.Records.{recordWords}
+use Rattle.rules.specs.Sheet.{clinicOf, lengthOk, slotCount, slotAt}
+use Rattle.rules.specs.Refusals.{Answer, EditAnswer, asEdit, Outcome, judged, called}
+use Rattle.sheet.specs.Book.{SlotCall, edits, call-on, Reply, edit-reply, numberOf, refusal, inSlot, step}
+use Rattle.sheet.specs.Book.{BookSlot, freshSlot, encodeSlot}
+use Rattle.sheet.specs.declared.Clinic.{Clinic}
+use Rattle.sheet.specs.declared.SlotNumber.{SlotNumber}
+use Rattle.sheet.proofs.Tables.{same-number}
+use Rattle.sheet.proofs.Entry.{called-0}
+use Rattle.sheet.proofs.OnSlot.{on-entering, on-slot}
+use Rattle.sheet.proofs.Encode.{Sound}
+use Rattle.sheet.proofs.Slots.{single-edit, single-is}
+use Rattle.sheet.proofs.SlotCalls.{keeps}
+use Rattle.sheet.proofs.Runs.{before, after, reply}
+use Rattle.sheet.proofs.Told.{told}
+use Rattle.sheet.proofs.Booked.{BySingleEdit}
+
+module _ (s : BookSlot) (h : Sound s) where
+  abbrev all : SlotCall
+  all = edits 0 0 (recordWords (s .records))
+
+  abbrev answer : Answer
+  answer = judged (s .setting .measure) (s .setting .indent) (s .records)
+
+  in-fresh : inSlot all (freshSlot s) ≡ (edit-reply (asEdit answer), encodeSlot s)
+  in-fresh = ap (λ (o : Outcome EditAnswer). (edit-reply (o .0), o .1)) (single-edit s h)
+
+  -- the edit call, on a sheet with a fresh slot j
+  module _ (vs : List ℕ) (c : Clinic) (j : SlotNumber) (ok : lengthOk (length vs) ≡ true)
+      (within : j .0 < slotCount vs) where
+    entered-by : slotAt vs (j .0) ≡ freshSlot s → c .0 ≡ s .setting .clinic → (c .0 ≡ 0 → ⊥) →
+        called vs (c .0) (j .0) .number ≡ 0
+    entered-by e own known =
+        let entry : eqb (c .0) 0 || not (eqb (c .0) (clinicOf (slotAt vs (j .0)))) ≡ false
+        = rw (e, ne-eqb _ _ known, eq-eqb (c .0) (s .setting .clinic) own) in
+        same-number (called-0 vs (c .0) (j .0) ok within entry)
+
+    call-edits : slotAt vs (j .0) ≡ freshSlot s → called vs (c .0) (j .0) .number ≡ 0 →
+        let o = step (call-on c j all) vs in
+        (numberOf (o .0) ≡ 0) × (slotAt (o .1) (j .0) ≡ encodeSlot s)
+    call-edits e z =
+        let f = ap (inSlot all) e ∙ in-fresh in (
+          ap (λ (o : Outcome Reply). numberOf (o .0)) (on-entering (refusal all) vs (c .0) (j .0) (inSlot all) z)
+              ∙ ap (λ (o : Outcome Reply). numberOf (o .0)) f
+              ∙ h .right,
+          on-slot (refusal all) vs (c .0) (j .0) (inSlot all) (keeps all .whole) z
+              ∙ ap (λ (o : Outcome Reply). o .1) f,
+        )
+
+  pub by-single-edit : BySingleEdit s (encodeSlot s)
+  by-single-edit =
+      record {
+        slot = sym (single-is s h);
+        unassigned = h .unassigned;
+        by-run = λ r c j e own known ok within f.
+            let t : _≡_ {A = Outcome Reply} (reply r, after r) (step (call-on c j all) (before r))
+            = rw e at (told r) in
+            let y = call-edits (before r) c j ok within f (entered-by (before r) c j ok within f own known) in (
+              ap (λ (o : Outcome Reply). numberOf (o .0)) t ∙ y .0,
+              ap (λ (o : Outcome Reply). slotAt (o .1) (j .0)) t ∙ y .1,
+            );
+      }
