@@ -1,6 +1,6 @@
 -- Any call: what it leaves alone and what it goes by, on sheets of any words. Assumes nothing.
-use mathlib.Core.Path.{_≡_, refl, ap, _∙_}
-use Prim.Native.Nat.{ℕ, _*_}
+use mathlib.Core.Path.{_≡_, ap, _∙_}
+use Prim.Native.Nat.{ℕ}
 use native.Mathlib.Omega.{arith}
 use mathlib.Core.List.{List}
 use mathlib.Core.Logic.{inl, inr}
@@ -8,7 +8,7 @@ use lib.Dec.{eqb}
 use lib.ListN.{length}
 use borrow.Author.Tests.{eqb-true, eq-eqb, ne-eqb}
 use Rattle.rules.specs.Sheet.{slotCount}
-use Rattle.rules.specs.Refusals.{freshSlots, setUpAnswer, setUp}
+use Rattle.rules.specs.Refusals.{setUpAnswer, setUp}
 use Rattle.rules.proofs.Facts.{tested}
 use Rattle.sheet.specs.Book.{Call, call-set-up, call-on, set-up-reply, numberOf, refusal, inSlot, step}
 use Rattle.sheet.specs.Meanings.{AlikeFor, LeftAlike}

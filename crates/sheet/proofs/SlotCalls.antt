@@ -1,17 +1,14 @@
 -- What each call on a slot keeps to, there and in the book. All that is proved of calls and of sequences of calls
 -- follows from these: a new call is one clause here. Assumes nothing.
-use mathlib.Core.Path.{_≡_, refl, sym, ap, _∙_}
-use Prim.Native.Nat.{ℕ, _*_, _≤_}
+use mathlib.Core.Path.{_≡_, refl, ap}
+use Prim.Native.Nat.{ℕ, _≤_}
 use native.Mathlib.Omega.{arith}
-use mathlib.Core.Bool.{true, false}
 use mathlib.Core.List.{List}
-use mathlib.Core.Logic.{inl, inr}
-use lib.Dec.{eqb}
 use lib.ListN.{length}
-use borrow.Author.Tests.{eqb-true, le-ltb, ne-eqb}
+use borrow.Author.Tests.{le-ltb, ne-eqb}
 use Rattle.rules.specs.Groups.{units}
 use Rattle.rules.specs.Adjustment.{compose}
-use Rattle.rules.specs.Refusals.{Answer, EditAnswer, Outcome, editSlot, readRows}
+use Rattle.rules.specs.Refusals.{Answer, EditAnswer, Outcome, readRows}
 use Rattle.rules.proofs.Lengths.{composed-few}
 use Rattle.sheet.specs.Book.{SlotCall, edits, reads, edit-reply, read-reply, numberOf, refusal, readSlot, inSlot}
 use Rattle.sheet.specs.Book.{BookSlot, bookEditRows, bookEdit, bookLines, inBook, encodeSlot}

@@ -15,7 +15,7 @@ use Rattle.rules.specs.Records.{Rec, records, recordWords}
 use Rattle.rules.specs.Groups.{units}
 use Rattle.rules.specs.Adjustment.{compose}
 use Rattle.rules.specs.Sheet.{slotWords, measureOf, indentOf, settingOf, countOf, recordsOf}
-use Rattle.rules.specs.Refusals.{Answer, says, EditAnswer, editSays, asEdit, Outcome, judged, edited, slotRows}
+use Rattle.rules.specs.Refusals.{Answer, EditAnswer, editSays, asEdit, Outcome, judged, edited, slotRows}
 use Rattle.rules.specs.Refusals.{editSlot}
 use Rattle.rules.proofs.Facts.{tested}
 use Rattle.rules.proofs.Words.{length-records, words-records}

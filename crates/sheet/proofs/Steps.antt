@@ -1,17 +1,16 @@
 -- Each call on a sheet that holds a well-formed book does what the book does. Assumes nothing.
-use mathlib.Core.Path.{_≡_, refl, sym, ap, _∙_}
-use Prim.Native.Nat.{ℕ, _-_, _*_, _/_, _<_}
+use mathlib.Core.Path.{_≡_, sym, ap, _∙_}
+use Prim.Native.Nat.{ℕ, _-_, _/_, _<_}
 use native.Mathlib.Omega.{arith}
-use mathlib.Core.Bool.{cond}
 use mathlib.Core.List.{List}
 use mathlib.Core.Logic.{inl, inr}
 use lib.Dec.{eqb}
-use lib.ListN.{length, set}
+use lib.ListN.{length}
 use borrow.Author.Tests.{eqb-true}
 use Rattle.rules.specs.Sheet.{slotAt}
 use Rattle.rules.specs.Refusals.{Answer, Outcome, callRows, called, onSlot, setUpAnswer, setUp}
 use Rattle.rules.proofs.Facts.{tested}
-use Rattle.sheet.specs.Book.{SlotCall, Call, call-set-up, call-on, Reply, set-up-reply, refusal, inSlot, step}
+use Rattle.sheet.specs.Book.{SlotCall, Call, call-set-up, call-on, set-up-reply, refusal, inSlot, step}
 use Rattle.sheet.specs.Book.{BookSlot, bookAt, bookSetUp, bookCallRows, bookCalled, onBookSlot, inBook, bookStep}
 use Rattle.sheet.specs.Book.{encodeSlot, encode, inWords}
 use Rattle.sheet.proofs.Tables.{same-number}

@@ -2,11 +2,10 @@
 use mathlib.Core.Path.{_≡_, refl, sym, ap, _∙_}
 use Prim.Native.Nat.{ℕ, _-_}
 use mathlib.Core.List.{List, [], _∷_, map}
-use lib.ListN.{take, drop}
 use denote.Ref.{now}
 use Rattle.rules.specs.Refusals.{Answer, EditAnswer, asEdit, Outcome, editSlot, onSlot, edit}
 use Rattle.rules.specs.Refusals.{readNumber, readPart, readWords}
-use Rattle.sheet.specs.Book.{Call, edits, reads, refusal, inSlot, step, runSheet}
+use Rattle.sheet.specs.Book.{edits, reads, refusal, inSlot, step, runSheet}
 use Rattle.sheet.specs.Book.{Reply, set-up-reply, edit-reply, read-reply}
 use Rattle.sheet.specs.declared.Clinic.{Clinic}
 use Rattle.sheet.specs.declared.SlotNumber.{SlotNumber}
