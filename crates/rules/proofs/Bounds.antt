@@ -37,6 +37,9 @@ pub record RubyBounds (base n s k : ℕ) : Type 0 where
   pub size : s ≤ 4000
   pub character : k < n
 
+pub within-low : (lo hi x : ℕ) → within lo hi x ≡ true → lo ≤ x
+within-low lo hi x e = leb-true lo x (and-eq-true-iff (leb lo x) (leb x hi) .0 e .0)
+
 pub within-high : (lo hi x : ℕ) → within lo hi x ≡ true → x ≤ hi
 within-high lo hi x e = leb-true x hi (and-eq-true-iff (leb lo x) (leb x hi) .0 e .1)
 

@@ -7,15 +7,13 @@ use mathlib.Core.List.{List, [], _∷_}
 use mathlib.Core.Logic.{inl, inr}
 use mathlib.Core.Option.{none, some}
 use lib.Dec.{leb, eqb}
-use borrow.Author.Tests.{eqb-true, leb-true, ne-eqb}
+use borrow.Author.Tests.{eqb-true, ne-eqb}
 use Rattle.rules.specs.Basics.{within, isIn}
-use Rattle.rules.specs.Records.{Rec, codeOk, classOk, sizeOk, advanceKind, advanceOk, groupOk, recOk, badRecord}
+use Rattle.rules.specs.Records.{Rec, sizeOk, advanceKind, advanceOk, groupOk, recOk, badRecord}
 use Rattle.rules.specs.Meanings.{All, all-none, all-more}
-use Rattle.rules.proofs.Bounds.{within-high}
+use Rattle.rules.proofs.Bounds.{within-low, within-high}
 use Rattle.rules.proofs.Facts.{tested, true-false, some-none}
-
-pub within-low : (lo hi x : ℕ) → within lo hi x ≡ true → lo ≤ x
-within-low lo hi x e = leb-true lo x (and-eq-true-iff (leb lo x) (leb x hi) .0 e .0)
+use Rattle.rules.proofs.Limits.{asked}
 
 abbrev pub Fine : Rec → Type 0
 Fine r = recOk r ≡ true
@@ -28,21 +26,6 @@ all-fine i (r ∷ rs) h =
       | inl e ↦ all-more e (all-fine (suc i) rs (rw (e, badRecord) at h))
       | inr e ↦ let f : some i ≡ none = rw (e, badRecord) at h in absurd (some-none f)
     ]
-
--- what is asked of a record's size, advance and group
-record Asked (r : Rec) : Type 0 where
-  size : sizeOk (r .size) ≡ true
-  advance : advanceOk (r .class) (r .size) (r .advance) ≡ true
-  group : groupOk (r .class) (r .group) (r .ruby) ≡ true
-
-asked : (r : Rec) → Fine r → Asked r
-unfolding recOk
-asked r e =
-    let coded = codeOk (r .code) && classOk (r .class) in
-    let wide = advanceOk (r .class) (r .size) (r .advance) in
-    let p = and-eq-true-iff (coded && sizeOk (r .size) && wide) (groupOk (r .class) (r .group) (r .ruby)) .0 e in
-    let q = and-eq-true-iff (coded && sizeOk (r .size)) wide .0 (p .0) in
-    record { size = and-eq-true-iff coded (sizeOk (r .size)) .0 (q .0) .1; advance = q .1; group = p .1 }
 
 -- classes 15, 16 and 19 are as wide as their size
 as-wide : (c s a : ℕ) → isIn c (15 ∷ 16 ∷ 19 ∷ []) ≡ true → advanceOk c s a ≡ true → a ≡ s

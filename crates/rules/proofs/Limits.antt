@@ -44,20 +44,33 @@ ruby-bound c g n e =
           within-high 1 64 n (and-right (leb g 65535) (within 1 64 n) (and-left _ (isIn c (15 ∷ 16 ∷ 19 ∷ [])) f))
     ]
 
-pub record-bounds : (r : Rec) → recOk r ≡ true → RecordBounds r
-unfolding recOk sizeOk advanceOk
-record-bounds r e =
+-- what is asked of a record's size, advance and group
+pub record Asked (r : Rec) : Type 0 where
+  pub size : sizeOk (r .size) ≡ true
+  pub advance : advanceOk (r .class) (r .size) (r .advance) ≡ true
+  pub group : groupOk (r .class) (r .group) (r .ruby) ≡ true
+
+pub asked : (r : Rec) → recOk r ≡ true → Asked r
+unfolding recOk
+asked r e =
     let grouped = groupOk (r .class) (r .group) (r .ruby) in
     let advanced = advanceOk (r .class) (r .size) (r .advance) in
     let coded = codeOk (r .code) && classOk (r .class) in
     let all₃ : coded && sizeOk (r .size) && advanced ≡ true = and-left _ grouped e in
     let all₂ : coded && sizeOk (r .size) ≡ true = and-left _ advanced all₃ in
-    let s =
-    within-high 8 4000 (r .size) (and-right (eqb (r .size % 8) 0) _ (and-right coded (sizeOk (r .size)) all₂)) in
-    let a =
-    advance-bound (advanceKind (r .class)) (r .size) (r .advance)
-    (and-right (coded && sizeOk (r .size)) advanced all₃) in
-    let n = ruby-bound (r .class) (r .group) (r .ruby) (and-right (coded && sizeOk (r .size) && advanced) grouped e) in
+    record {
+      size = and-right coded (sizeOk (r .size)) all₂;
+      advance = and-right (coded && sizeOk (r .size)) advanced all₃;
+      group = and-right (coded && sizeOk (r .size) && advanced) grouped e;
+    }
+
+pub record-bounds : (r : Rec) → recOk r ≡ true → RecordBounds r
+unfolding sizeOk advanceOk
+record-bounds r e =
+    let q = asked r e in
+    let s = within-high 8 4000 (r .size) (and-right (eqb (r .size % 8) 0) _ (q .size)) in
+    let a = advance-bound (advanceKind (r .class)) (r .size) (r .advance) (q .advance) in
+    let n = ruby-bound (r .class) (r .group) (r .ruby) (q .group) in
     record { size = s; advance = omega arith; ruby = n }
 
 -- where answer 8 does not apply, each record keeps its rules

@@ -19,7 +19,8 @@ use Rattle.rules.proofs.Cuts.{cut-joined, units-one}
 use Rattle.rules.proofs.Facts.{tested}
 use Rattle.rules.proofs.Judged.{judged-passes}
 use Rattle.rules.proofs.GroupLimits.{headCount, units-few}
-use Rattle.rules.proofs.GroupedRecords.{within-low, Fine, all-fine, Grouped, in-group, has-group}
+use Rattle.rules.proofs.Bounds.{within-low}
+use Rattle.rules.proofs.GroupedRecords.{Fine, all-fine, Grouped, in-group, has-group}
 
 -- One unit ---------------------------------------------------------------------------------------------------------
 
