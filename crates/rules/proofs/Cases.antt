@@ -1,44 +1,13 @@
 -- Document 01, "Composed by hand": the cases C1 to C13 as one table, with one claim over all rows that the checker
--- computes; and C3 with every word of its slot.
---
--- A row wants, in one list: the answer's number and place (0 and the line count where it is accepted), the place
--- words, the line words, and the offsets of the ruby characters of each group. Assumes nothing.
+-- computes; and C3 with every word of its slot. What a row wants is told in Worked.antt. Assumes nothing.
 use mathlib.Core.Path.{_≡_, refl}
-use Prim.Native.Nat.{ℕ, zero, suc, _-_}
-use mathlib.Core.Bool.{Bool, true, false, cond, _&&_}
+use mathlib.Core.Bool.{true}
 use mathlib.Core.List.{List, [], _∷_, _++_}
-use lib.Dec.{eqb}
 use Rattle.rules.specs.Basics.{zeros}
 use Rattle.rules.specs.Records.{Rec, recordWords}
-use Rattle.rules.specs.Groups.{TextUnit, units, baseTotal, rubyPlace}
-use Rattle.rules.specs.Adjustment.{compose}
-use Rattle.rules.specs.Sheet.{placeWords, lineWords, setting, slotWords}
-use Rattle.rules.specs.Refusals.{judged}
+use Rattle.rules.specs.Sheet.{setting, slotWords}
 use Rattle.rules.specs.Computed.{computed}
-
--- the places of the last k of n ruby characters, in order
-rubyFrom : ℕ → ℕ → ℕ → ℕ → List ℕ
-rubyFrom base s n zero = []
-rubyFrom base s n (suc k) = rubyPlace base n s (n - suc k) .1 ∷ rubyFrom base s n k
-
-rubies : List TextUnit → List ℕ
-rubies [] = []
-rubies (u ∷ us) = rubyFrom (baseTotal u) (u .first .size) (u .first .ruby) (u .first .ruby) ++ rubies us
-
--- what the rules give records in a measure, without an indent
-given : ℕ → List Rec → List ℕ
-given m rs =
-    let a = judged m 0 rs in
-    let ls = compose m 0 (units rs) in
-    let accepted = placeWords 0 ls ++ lineWords 0 ls ++ rubies (units rs) in
-    a .number ∷ a .place ∷ cond (eqb (a .number) 0) accepted []
-
--- "size 80, K is class 19"; a record by code point, class, advance, group and ruby count
-abbrev sized : ℕ → ℕ → ℕ → ℕ → ℕ → Rec
-sized c k a g n = record { code = c; class = k; size = 80; advance = a; group = g; ruby = n }
-
-abbrev K : Rec
-K = sized 0x4E00 19 80 0 0
+use Rattle.rules.proofs.Worked.{sized, K, Row, row, right, worked}
 
 abbrev opening : Rec
 opening = sized 0x300C 1 40 0 0
@@ -57,14 +26,6 @@ western = sized 0x61 27 40 0 0
 
 abbrev ruby3 : Rec
 ruby3 = sized 0x4E00 19 80 1 3
-
-pub record Row : Type 0 where
-  pub measure : ℕ
-  pub text : List Rec
-  pub want : List ℕ
-
-abbrev row : ℕ → List Rec → List ℕ → Row
-row m t w = record { measure = m; text = t; want = w }
 
 pub rows : List Row
 rows =
@@ -100,19 +61,9 @@ rows =
     ∷ row 400 (ruby3 ∷ []) (0 ∷ 1 ∷ 20 ∷ 0 ∷ 0 ∷ 120 ∷ 3 ∷ 0 ∷ 40 ∷ 80 ∷ [])
     ∷ []
 
-same : List ℕ → List ℕ → Bool
-same [] [] = true
-same [] (b ∷ bs) = false
-same (a ∷ l) [] = false
-same (a ∷ l) (b ∷ bs) = eqb a b && same l bs
-
-pub right : List Row → Bool
-right [] = true
-right (r ∷ rs) = same (given (r .measure) (r .text)) (r .want) && right rs
-
 -- every row comes out as document 01 has it
 pub cases-hold : right rows ≡ true
-unfolding computed rubyFrom rubies given rows same right
+unfolding worked rows
 cases-hold = refl
 
 -- C3 whole: the 2,824 words of the slot, of a clinic 7

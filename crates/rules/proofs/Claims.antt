@@ -17,7 +17,9 @@ use Rattle.rules.specs.Refusals.{judged}
 use Rattle.rules.specs.Meanings.{All, lastOf, Maximal, Boundary, OneUnit, RubyPlaced, Choice, Fits, Longest}
 use Rattle.rules.specs.Meanings.{FirstWide, GapAt, WithinLimits, FirstStageFull}
 use Rattle.rules.proofs.Facts.{some-none}
-use Rattle.rules.proofs.Cases.{rows, right, cases-hold}
+use Rattle.rules.proofs.Worked.{right}
+use Rattle.rules.proofs.Cases.{rows, cases-hold}
+use Rattle.rules.proofs.PercentCases.{percents, percents-hold}
 use Rattle.rules.proofs.PairCases.{pairs, ruled, wanted, pairs-hold}
 use Rattle.rules.proofs.Cuts.{cut-maximal, maximal-only, boundary-exact, units-one}
 use Rattle.rules.proofs.NoBreaking.{breaking-exists, due-exactly, place-of-10}
@@ -144,6 +146,10 @@ final-line m x l fits h = final-ends m x l fits h
 -- C1 to C13
 pub composed-by-hand : right rows ≡ true
 composed-by-hand = cases-hold
+
+-- request 01: a digit and the % or ℃ after it
+pub percent-by-hand : right percents ≡ true
+percent-by-hand = percents-hold
 
 -- the break and the gap between two units, rule by rule
 pub pairs-by-hand : map ruled pairs ≡ map wanted pairs

@@ -2,7 +2,9 @@
 -- order.
 pub mod Facts
 pub mod Judged
+pub mod Worked
 pub mod Cases
+pub mod PercentCases
 pub mod PairCases
 pub mod Cuts
 pub mod Widths

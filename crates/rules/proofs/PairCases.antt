@@ -1,5 +1,5 @@
--- Document 01, "Space between units" and "Breaks and adjustment", read pair by pair: for two units, whether the break
--- between them is forbidden, and the gap's space and its capacity at each stage. One table, with one claim over all
+-- Document 01, "Space between units" and "Breaks and adjustment" with request 01, read pair by pair: for two units,
+-- whether the break between them is forbidden, and the gap's space and its capacity at each stage. One table, with one claim over all
 -- rows that the checker computes. What a row wants is written by hand from the document's words.
 --
 --   at80, at240  a unit of a class, of that size: of 80, 1/2 is 40, 1/4 is 20 and 1/8 is 10; of 240 they are 120, 60
@@ -139,13 +139,12 @@ pairs =
     ∷ pair (at80 11) (at240 27) permits 20 0 10 20 1
     ∷ pair (at80 15) (at240 27) permits 20 0 10 20 1
     ∷ pair (at80 16) (at240 27) permits 20 0 10 20 1
-    -- k. otherwise 0: 27 before the others, 4 among them, and the others before 27; 27 before 13 is permitted
+    -- k. otherwise 0: 27 before the others, 4 among them, and the others before 27
     ∷ pair (at80 27) (at240 3) forbids 0 0 0 0 0
     ∷ pair (at80 27) (at240 4) forbids 0 0 0 0 0
     ∷ pair (at80 27) (at240 8) permits 0 0 0 0 1
     ∷ pair (at80 27) (at240 12) permits 0 0 0 0 1
     ∷ pair (at80 27) (at240 13) permits 0 0 0 0 1
-    ∷ pair (sized 27 80 0x35) (sized 13 240 0x25) permits 0 0 0 0 1
     ∷ pair (at80 27) (at240 14) permits 0 0 0 0 1
     ∷ pair (at80 3) (at240 27) permits 0 0 0 0 1
     ∷ pair (at80 8) (at240 27) permits 0 0 0 0 1
@@ -195,6 +194,20 @@ pairs =
     -- forbidden when both are 27, with equal code points or not
     ∷ pair (at80 27) (sized 27 240 0x2014) forbids 0 0 0 0 0
     ∷ pair (at80 27) (at240 27) forbids 0 0 0 0 0
+    -- request 01: 27 before 13 is forbidden when L's code point is U+0030 to U+0039, whatever R's is
+    ∷ pair (sized 27 80 0x2F) (at240 13) permits 0 0 0 0 1
+    ∷ pair (sized 27 80 0x30) (at240 13) forbids 0 0 0 0 0
+    ∷ pair (sized 27 80 0x35) (sized 13 240 0x25) forbids 0 0 0 0 0
+    ∷ pair (sized 27 80 0x35) (sized 13 240 0x35) forbids 0 0 0 0 0
+    ∷ pair (sized 27 80 0x39) (at240 13) forbids 0 0 0 0 0
+    ∷ pair (sized 27 80 0x3A) (at240 13) permits 0 0 0 0 1
+    ∷ pair (sized 27 80 0x61) (sized 13 240 0x35) permits 0 0 0 0 1
+    -- and only there: digits of other classes, before other classes and on the right hold nothing
+    ∷ pair (sized 19 80 0x35) (sized 13 240 0x25) permits 0 0 0 0 1
+    ∷ pair (sized 13 80 0x35) (sized 13 240 0x25) permits 0 0 0 0 1
+    ∷ pair (sized 27 80 0x35) (at240 12) permits 0 0 0 0 1
+    ∷ pair (sized 27 80 0x35) (at240 19) permits 60 0 30 60 1
+    ∷ pair (sized 13 80 0x25) (sized 27 240 0x35) permits 0 0 0 0 1
     ∷ []
 
 pub wanted : Pair → Between

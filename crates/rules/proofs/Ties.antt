@@ -71,6 +71,11 @@ outside n e =
 not-8 : (n : ℕ) → within 2 11 n ≡ false → n ≡ 8 → ⊥
 not-8 n e z = let f : true ≡ false = rw z at e in let g : _≡_ {A = ℕ} 0 1 = cc in omega arith
 
+-- neither the right class nor two equal dashes forbid the break
+pub record Undecided (l r : Side) : Type 0 where
+  pub by-right : within 2 7 (r .class) || isIn (r .class) (9 ∷ 10 ∷ 11 ∷ []) ≡ false
+  pub by-dashes : eqb (l .class) 8 && eqb (r .class) 8 && eqb (l .code) (r .code) ≡ false
+
 module _ (l r : Side) where
   pub tied-right : within 2 11 (r .class) ≡ true → (r .class ≡ 8 → ⊥) → true ≡ forbidden l r
   unfolding forbidden
@@ -78,21 +83,27 @@ module _ (l r : Side) where
 
   pub tied-8 : r .class ≡ 8 → l .class ≡ 8 → eqb (l .code) (r .code) ≡ forbidden l r
   unfolding forbidden
-  tied-8 e f = rw (e, f, or-false)
+  tied-8 e f = rw (e, f, or-false, or-false)
 
-  -- where the right class does not decide
-  pub tied-left : within 2 11 (r .class) ≡ false →
-      isIn (l .class) (1 ∷ 12 ∷ []) || (eqb (l .class) 27 && eqb (r .class) 27) ≡ forbidden l r
-  unfolding forbidden
-  tied-left e =
-      rw (
-        outside (r .class) e,
-        ne-eqb (r .class) 8 (not-8 (r .class) e),
-        and-false (eqb (l .class) 8),
-        or-false (isIn (l .class) (1 ∷ 12 ∷ [])),
-      )
+  pub undecided : within 2 11 (r .class) ≡ false → Undecided l r
+  undecided e =
+      record {
+        by-right = outside (r .class) e;
+        by-dashes = rw (ne-eqb (r .class) 8 (not-8 (r .class) e), and-false (eqb (l .class) 8));
+      }
 
-  pub tied-left-8 : r .class ≡ 8 → (l .class ≡ 8 → ⊥) →
-      isIn (l .class) (1 ∷ 12 ∷ []) || (eqb (l .class) 27 && eqb (r .class) 27) ≡ forbidden l r
+  pub undecided-8 : r .class ≡ 8 → (l .class ≡ 8 → ⊥) → Undecided l r
+  undecided-8 e f = record { by-right = rw e; by-dashes = rw (ne-eqb (l .class) 8 f) }
+
+  -- where L is 27
+  pub tied-western : Undecided l r → l .class ≡ 27 →
+      eqb (r .class) 27 || (eqb (r .class) 13 && within 0x30 0x39 (l .code)) ≡ forbidden l r
   unfolding forbidden
-  tied-left-8 e f = rw (e, ne-eqb (l .class) 8 f, or-false (isIn (l .class) (1 ∷ 12 ∷ [])))
+  tied-western u e = rw (u .by-right, u .by-dashes, e)
+
+  -- and where it is another
+  pub tied-left : Undecided l r → (l .class ≡ 27 → ⊥) → isIn (l .class) (1 ∷ 12 ∷ []) ≡ forbidden l r
+  unfolding forbidden
+  tied-left u f =
+      let kept = or-false (isIn (l .class) (1 ∷ 12 ∷ [])) in
+      rw (u .by-right, u .by-dashes, ne-eqb (l .class) 27 f, kept, kept, kept)

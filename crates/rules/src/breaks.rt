@@ -37,7 +37,11 @@ pub fn break_forbidden(l: Side, r: Side) -> bool
             return l.code == r.code;
         }
     }
-    one_of2(left, 1, 12) | ((left == 27) & (right == 27))
+    // 5% and 25℃ stay together, a% need not
+    if left == 27 {
+        return (right == 27) | ((right == 13) & between(0x30, 0x39, l.code));
+    }
+    one_of2(left, 1, 12)
 }
 
 fn one_if(test: bool) -> u32

@@ -45,7 +45,7 @@ const STYLES: [Style; 6] = [
     Style { sizes: &[40], one_group_in: 1_000, any_class_in: 1 },
 ];
 
-const FREQUENT: [u32; 12] = [15, 15, 15, 16, 19, 19, 19, 7, 6, 1, 2, 27];
+const FREQUENT: [u32; 13] = [15, 15, 15, 16, 19, 19, 19, 7, 6, 1, 2, 27, 13];
 
 impl Style {
     /// One of the styles.
@@ -80,7 +80,12 @@ impl Style {
             27 if random.once_in(4) => random.between(1, 2 * size),
             _ => usual_advance(class, size),
         };
-        let code_point = if class == 8 { 0x2014 + random.below(2) } else { random.between(0x3041, 0x3096) };
+        let code_point = match class {
+            8 => 0x2014 + random.below(2),
+            // the digits and a few on either side
+            27 => random.between(0x2C, 0x3D),
+            _ => random.between(0x3041, 0x3096),
+        };
         [code_point, class, size, advance, 0, 0]
     }
 

@@ -1,8 +1,8 @@
 //! Every planted fault is found, and the case that shows it is made small.
 
-use compare::comparisons::{pairs, paragraphs, sequences, short, Comparison, ALL};
+use compare::comparisons::{digits, pairs, paragraphs, sequences, short, Comparison, ALL};
 use compare::failure::{Failure, NOT_SEEN_AGAIN};
-use compare::faults::{Fault, CLASSES_AS, SINGLE};
+use compare::faults::{Fault, CLASSES_AS, DIGITS, SINGLE};
 use compare::layout::CLASSES;
 use compare::program::{Second, SECOND, UNDER_TEST};
 use compare::{heading, Scope};
@@ -28,6 +28,15 @@ fn single_faults() {
 fn a_class_set_as_another() {
     for fault in CLASSES_AS {
         let failure = find(fault, &[pairs::compare]);
+        println!("{}", failure.in_one_line());
+        assert!(failure.calls <= 3, "{fault:?}: {failure}");
+    }
+}
+
+#[test]
+fn digits_and_the_signs_after_them() {
+    for fault in DIGITS {
+        let failure = find(fault, &[digits::compare]);
         println!("{}", failure.in_one_line());
         assert!(failure.calls <= 3, "{fault:?}: {failure}");
     }

@@ -1,4 +1,4 @@
-//! Where lines end (document 01, "Breaks and adjustment").
+//! Where lines end (document 01, "Breaks and adjustment"; document 02, request 01).
 
 use std::ops::Range;
 
@@ -48,6 +48,7 @@ fn permits_break(left: &Unit, right: &Unit) -> bool {
         (1 | 12, _) => false,
         (8, 8) => !left.same_code_point(right),
         (27, 27) => false,
+        (27, 13) => !left.is_digit(),
         _ => true,
     }
 }
@@ -186,6 +187,22 @@ mod tests {
         assert!(!gap((8, 0x2014), (8, 0x2014)).permits_break);
         assert!(gap((8, 0x2014), (8, 0x2025)).permits_break);
         assert!(gap((8, 0x2014), (13, 0x2014)).permits_break);
+    }
+
+    /// Request 01. What follows may have any code point, and no other class holds its sign.
+    #[test]
+    fn a_digit_holds_the_sign_after_it() {
+        let digits: Vec<u32> = "0123456789".chars().map(u32::from).collect();
+        for code_point in (0..0x1_0000).filter(|code_point| !(0xD800..0xE000).contains(code_point)) {
+            let is_digit = digits.contains(&code_point);
+            for sign in ['%', '℃', '5'].map(u32::from) {
+                assert_eq!(gap((27, code_point), (13, sign)).permits_break, !is_digit, "{code_point:04X}");
+                assert_eq!(gap((27, code_point), (13, sign)).opens, !is_digit, "{code_point:04X}");
+            }
+            for (l, r) in [(19, 13), (13, 13), (27, 12), (27, 14), (27, 19), (13, 27)] {
+                assert!(gap((l, code_point), (r, '%'.into())).permits_break, "{l} before {r}");
+            }
+        }
     }
 
     #[test]

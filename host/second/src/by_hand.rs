@@ -1,5 +1,5 @@
-//! The cases that document 01 composes by hand (document 01, "Composed by hand"), for the tests of
-//! this program and of any other.
+//! Cases composed by hand, for the tests of this program and of any other: those of document 01
+//! ("Composed by hand"), and those of document 02's requests.
 
 use crate::answer::{EditAnswer, Refusal};
 
@@ -11,7 +11,7 @@ type Line = (&'static [u32], u32, u32);
 /// A case. Its indent is 0.
 #[derive(Debug, Clone, Copy)]
 pub struct Case {
-    /// Its name in document 01.
+    /// Its name in document 01, or its text.
     pub name: &'static str,
     /// The records of its paragraph.
     pub records: &'static [Words],
@@ -30,6 +30,24 @@ const CLOSING: Words = [0x300D, 2, 80, 40, 0, 0];
 const WESTERN: Words = [0x41, 27, 80, 40, 0, 0];
 /// An ideograph of a group with 3 ruby characters.
 const GROUPED: Words = [0x6F22, 19, 80, 80, 1, 3];
+
+const FIVE: Words = letter('5');
+const PERCENT: Words = ['%' as u32, 13, 80, 80, 0, 0];
+const CELSIUS: Words = ['℃' as u32, 13, 80, 80, 0, 0];
+/// A digit as wide as an ideograph, of class 19, and the same with a ruby character.
+const WIDE_FIVE: Words = ['5' as u32, 19, 80, 80, 0, 0];
+const GROUPED_FIVE: Words = ['5' as u32, 19, 80, 80, 1, 1];
+
+/// A digit or letter of class 27.
+const fn letter(character: char) -> Words {
+    [character as u32, 27, 80, 40, 0, 0]
+}
+
+/// Five records in measure 240: the third goes to the next line with the sign after it.
+const HELD: Result<&[Line], usize> = Ok(&[(&[0, 160], 240, 1), (&[0, 40, 120], 200, 3)]);
+/// It ends the first line, and the sign starts the next.
+const PARTED: Result<&[Line], usize> = Ok(&[(&[0, 80, 200], 240, 1), (&[0, 80], 160, 3)]);
+const PARTED_WIDE: Result<&[Line], usize> = Ok(&[(&[0, 80, 160], 240, 1), (&[0, 80], 160, 3)]);
 
 const WITH_FULL_STOP: &[Words] = &[K, K, K, K, K, FULL_STOP, K];
 const WITH_COMMA: &[Words] = &[K, K, COMMA, K, K, K];
@@ -56,6 +74,38 @@ pub const CASES: [Case; 15] = [
 
 /// The ruby of C12 and C13: the name, the base advance, and where the 3 ruby characters stand.
 pub const RUBY: [(&str, u32, [u32; 3]); 2] = [("C12", 160, [6, 60, 113]), ("C13", 80, [0, 40, 80])];
+
+/// Request 01, "Five percent must stay together". All but the first four are at the ends of the digits,
+/// at those of the measure, or beside the rule.
+pub const FIVE_PERCENT: [Case; 13] = [
+    Case::new("漢漢5%漢", &[K, K, FIVE, PERCENT, K], 240, HELD),
+    Case::new("漢漢a%漢", &[K, K, letter('a'), PERCENT, K], 240, PARTED),
+    Case::new(
+        "漢5%漢漢",
+        &[K, FIVE, PERCENT, K, K],
+        350,
+        Ok(&[(&[0, 135, 175, 270], 350, 1), (&[0], 80, 3)]),
+    ),
+    Case::new(
+        "漢漢漢25℃",
+        &[K, K, K, letter('2'), FIVE, CELSIUS],
+        400,
+        Ok(&[(&[0, 160, 320], 400, 1), (&[0, 40, 80], 160, 3)]),
+    ),
+    Case::new("漢漢/%漢", &[K, K, letter('/'), PERCENT, K], 240, PARTED),
+    Case::new("漢漢0%漢", &[K, K, letter('0'), PERCENT, K], 240, HELD),
+    Case::new("漢漢9%漢", &[K, K, letter('9'), PERCENT, K], 240, HELD),
+    Case::new("漢漢:%漢", &[K, K, letter(':'), PERCENT, K], 240, PARTED),
+    Case::new("漢漢5%漢, 5 of class 19", &[K, K, WIDE_FIVE, PERCENT, K], 240, PARTED_WIDE),
+    Case::new("漢漢5%漢, 5 with ruby", &[K, K, GROUPED_FIVE, PERCENT, K], 240, PARTED_WIDE),
+    Case::new("漢5%, a unit too wide", &[K, FIVE, PERCENT], 119, Err(1)),
+    Case::new("漢5%", &[K, FIVE, PERCENT], 120, Ok(&[(&[0], 80, 2), (&[0, 40], 120, 3)])),
+    Case::new("漢10%, a unit too wide", &[K, letter('1'), letter('0'), PERCENT], 159, Err(1)),
+];
+
+/// All cases, by the paper that asks for them.
+pub const PAPERS: [(&str, &[Case]); 2] =
+    [("document 01", &CASES), ("document 02, request 01", &FIVE_PERCENT)];
 
 impl Case {
     const fn new(

@@ -1,4 +1,5 @@
-//! The second program: document 01's rules in objects and vectors.
+//! The second program: document 01's rules, as document 02's requests amend them, in objects and
+//! vectors.
 //!
 //! It works on the same raw words as the proved program and shares no code with it, so that the
 //! two can be run side by side. One module holds one part of document 01:
@@ -9,12 +10,12 @@
 //! | [`records`] | "Records and groups", a record's own rules and the group rules |
 //! | [`units`] | "Records and groups", units and the two rows of a group |
 //! | [`spacing`] | "Space between units", and how far each space gives way |
-//! | [`breaking`] | "Breaks and adjustment", where lines end |
+//! | [`breaking`] | "Breaks and adjustment", where lines end; request 01 |
 //! | [`adjust`] | "Breaks and adjustment", how a line is brought to the measure |
 //! | [`compose`] | the lines and places of a whole paragraph |
 //! | [`sheet`] | "The sheet", its layout and its calls |
 //! | [`book`] | "The book of demand 3" |
-//! | [`by_hand`] | "Composed by hand", C1 to C13 to test a program with |
+//! | [`by_hand`] | "Composed by hand", C1 to C13, and the requests' cases, to test a program with |
 //!
 //! No input makes a call panic. Sums stay far below 2^32: a paragraph has at most 256 units, a
 //! unit's advance is at most 128,000 (64 ruby characters of size 2,000), a space at most 3,000 and

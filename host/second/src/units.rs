@@ -57,6 +57,14 @@ impl<'a> Unit<'a> {
             _ => false,
         }
     }
+
+    /// Whether it is a single record of an Arabic digit, 0 to 9.
+    pub fn is_digit(&self) -> bool {
+        match self.records {
+            [record] => char::from_u32(record.code_point).is_some_and(|character| character.is_ascii_digit()),
+            _ => false,
+        }
+    }
 }
 
 /// The units of a paragraph, in order.

@@ -1,14 +1,14 @@
-//! C1 to C13 (document 01, "Composed by hand").
+//! C1 to C13 (document 01, "Composed by hand"), and the cases of document 02's requests.
 
 mod common;
 
 use common::{edit, flat, k, one_slot, own, CLINIC};
-use second::by_hand::{CASES, RUBY};
+use second::by_hand::{PAPERS, RUBY};
 use second::{ruby_place, RubyPlace};
 
 #[test]
 fn every_word_of_every_case() {
-    for case in CASES {
+    for case in PAPERS.into_iter().flat_map(|(_, cases)| cases) {
         let mut sheet = one_slot(case.measure, 0);
         let answer = second::edit(&mut sheet, own(0, 0, &flat(case.records)));
         let (expected, words) = case.expected(CLINIC);

@@ -1,7 +1,7 @@
-//! C1 to C13 (document 01, "Composed by hand"), against the numbers on the paper and beside the
-//! second program.
+//! C1 to C13 (document 01, "Composed by hand") and the cases of document 02's requests, against the
+//! numbers on the paper and beside the second program.
 
-use second::by_hand::{self, CASES, RUBY};
+use second::by_hand::{self, PAPERS, RUBY};
 use second::Edit;
 
 use crate::calls::{Call, Case};
@@ -14,12 +14,13 @@ use crate::Scope;
 
 const TEST: &str = "cases";
 const CLINIC: u32 = 7;
-const PAPER: &str = "document 01";
+const PAPER: &str = "the paper";
 
-/// Compares C1 to C13.
+/// Compares the cases.
 pub fn compare(program: &dyn Program, _scope: Scope) -> Result<Tally, Failure> {
     let mut tally = Tally::default();
-    for case in CASES {
+    let cases = PAPERS.into_iter().flat_map(|(paper, cases)| cases.iter().map(move |case| (paper, case)));
+    for (paper, case) in cases {
         let calls = vec![
             Call::SetUp { clinics: vec![CLINIC], measures: vec![case.measure], indents: vec![0] },
             Call::replace(CLINIC, 0, &case.records.concat()),
@@ -30,19 +31,21 @@ pub fn compare(program: &dyn Program, _scope: Scope) -> Result<Tally, Failure> {
             Ok(seen) => tally.add(&seen),
             Err(_) => return Err(Failure::new(TEST, None, program, &beside)),
         }
-        as_on_paper(program, &case).map_err(|difference| paper_failure(program, case.name, difference))?;
+        as_on_paper(program, case)
+            .map_err(|difference| paper_failure(program, paper, case.name, difference))?;
     }
     for (name, base_advance, expected) in RUBY {
         let offsets = [0, 1, 2].map(|k| program.ruby_place(base_advance, 3, 80, k).offset);
         if offsets != expected {
-            return Err(paper_failure(program, name, format!("ruby stands at {offsets:?}")));
+            let difference = format!("ruby stands at {offsets:?}");
+            return Err(paper_failure(program, "document 01", name, difference));
         }
     }
     Ok(tally)
 }
 
-fn paper_failure(program: &dyn Program, name: &'static str, difference: String) -> Failure {
-    let case = format!("{name} of {PAPER}");
+fn paper_failure(program: &dyn Program, paper: &str, name: &str, difference: String) -> Failure {
+    let case = format!("{name} of {paper}");
     Failure { program: program.name(), test: TEST, seed: None, difference, calls: 2, case }
 }
 

@@ -1,6 +1,7 @@
 //! The comparisons: each runs the program under test beside the second one and says what it saw.
 
 pub mod cases;
+pub mod digits;
 pub mod junk;
 pub mod limits;
 pub mod pairs;
@@ -18,11 +19,12 @@ use crate::Scope;
 pub type Comparison = fn(&dyn Program, Scope) -> Result<Tally, Failure>;
 
 /// All comparisons, the quickest first.
-pub const ALL: [Comparison; 8] = [
+pub const ALL: [Comparison; 9] = [
     cases::compare,
     ruby::compare,
     limits::compare,
     junk::compare,
+    digits::compare,
     pairs::compare,
     paragraphs::compare,
     sequences::compare,

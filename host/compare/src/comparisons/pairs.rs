@@ -74,7 +74,7 @@ fn units(size: u32, group: u32) -> impl Iterator<Item = Words> {
 }
 
 /// The pair alone, and beside ideographs.
-fn texts(left: Words, right: Words, k: Words) -> [Vec<u32>; 4] {
+pub fn texts(left: Words, right: Words, k: Words) -> [Vec<u32>; 4] {
     [
         [left, right].concat(),
         [left, right, k].concat(),

@@ -21,9 +21,10 @@ pub fn compare(program: &dyn Program, scope: Scope) -> Result<Tally, Failure> {
     let punctuation = [1, 2, 5, 6, 7, 19, 27].map(|class| plain(class, SIZE));
     all(&mut slot, &punctuation, scope.choose(6, 3), 0)?;
     all(&mut slot, &punctuation, scope.choose(5, 2), 5)?;
-    // What holds together: equal and unequal dashes, prefixes and suffixes, Western in two widths.
+    // What holds together: equal and unequal dashes, prefixes and suffixes, Western in two widths, a digit.
     let dash = |code_point| [code_point, 8, SIZE, SIZE, 0, 0];
     let western = [0x41, 27, SIZE, 5, 0, 0];
+    let digit = [0x35, 27, SIZE, 4, 0, 0];
     let held = [
         dash(0x2014),
         dash(0x2025),
@@ -32,6 +33,7 @@ pub fn compare(program: &dyn Program, scope: Scope) -> Result<Tally, Failure> {
         plain(14, SIZE),
         plain(27, SIZE),
         western,
+        digit,
     ];
     all(&mut slot, &held, scope.choose(4, 2), 0)?;
     // Groups that join with their neighbours or do not, and larger sizes.

@@ -1,5 +1,7 @@
 //! Edits with a fault: what goes in is changed, or what comes out is spoiled.
 
+use std::ops::RangeInclusive;
+
 use second::{Edit, EditAnswer};
 
 use super::slots::{
@@ -26,6 +28,10 @@ fn with_changed_input(fault: Fault, sheet: &mut [u32], edit: Edit<'_>) -> EditAn
         Fault::ClassAs(class, other) => with_records_as(sheet, edit, |record| class_as(record, class, other)),
         Fault::NarrowRuby => with_records_as(sheet, edit, with_one_ruby),
         Fault::DashesAlike => with_records_as(sheet, edit, with_one_dash),
+        Fault::DigitParted => with_records_as(sheet, edit, |record| western_as(record, '0'..='9', 'a')),
+        Fault::NineParted => with_records_as(sheet, edit, |record| western_as(record, '9'..='9', 'a')),
+        Fault::LetterHeld => with_records_as(sheet, edit, |record| western_as(record, '\0'..=char::MAX, '5')),
+        Fault::WideDigitHeld => with_records_as(sheet, edit, |record| western_as(record, '０'..='９', '5')),
         Fault::LargeSizes => with_records_as(sheet, edit, with_size_in_limits),
         Fault::CallerZero if edit.caller == 0 && clinic == 0 => {
             with_head_word(sheet, Edit { caller: 1, ..edit }, 0, 1)
@@ -147,6 +153,14 @@ fn with_one_ruby(mut record: Words) -> Words {
 fn with_one_dash(mut record: Words) -> Words {
     if record[1] == 8 {
         record[0] = 0x2014;
+    }
+    record
+}
+
+/// The record, another character where it is one of these of class 27.
+fn western_as(mut record: Words, those: RangeInclusive<char>, other: char) -> Words {
+    if record[1] == 27 && char::from_u32(record[0]).is_some_and(|character| those.contains(&character)) {
+        record[0] = other.into();
     }
     record
 }

@@ -93,6 +93,14 @@ pub enum Fault {
     NarrowRuby,
     /// Two dashes hold together whatever their code points.
     DashesAlike,
+    /// A digit does not hold the sign after it.
+    DigitParted,
+    /// Of the digits, 9 does not hold it.
+    NineParted,
+    /// Every character of class 27 holds it.
+    LetterHeld,
+    /// Full-width digits of class 27 hold it too.
+    WideDigitHeld,
     /// Ruby offsets are rounded up.
     RubyUp,
     /// Ruby place takes an index equal to the count.
@@ -103,7 +111,7 @@ pub enum Fault {
     PairShifted(u32, u32),
 }
 
-/// Every fault but those of classes.
+/// Every fault but those of digits and classes.
 pub const SINGLE: [Fault; 40] = [
     Fault::NaturalBreaks,
     Fault::DamageBeforeCaller,
@@ -146,6 +154,10 @@ pub const SINGLE: [Fault; 40] = [
     Fault::RubyUp,
     Fault::RubyOneMore,
 ];
+
+/// What holds the sign after it (document 02, request 01).
+pub const DIGITS: [Fault; 4] =
+    [Fault::DigitParted, Fault::NineParted, Fault::LetterHeld, Fault::WideDigitHeld];
 
 /// A class set as another: each of these changes some rule.
 pub const CLASSES_AS: [Fault; 20] = [

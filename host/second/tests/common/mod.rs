@@ -129,6 +129,7 @@ pub fn random_records(random: &mut Random, count: u32) -> Vec<Words> {
             let mut record = plain(class, size);
             record[0] += random.below(2);
             if class == 27 {
+                record[0] = random.one_of(&[0x2F, 0x30, 0x35, 0x39, 0x3A, 0x61]);
                 record[3] = 1 + random.below(2 * size);
             }
             records.push(record);

@@ -1,0 +1,46 @@
+//! Every pair of classes 27 and 13, in either order, with code points around the digits (document 02,
+//! request 01), and digits of class 19 before them, alone and in a group.
+
+use crate::calls::Words;
+use crate::comparisons::pairs::texts;
+use crate::failure::Failure;
+use crate::generate::{plain, usual_advance};
+use crate::one_slot::OneSlot;
+use crate::program::Program;
+use crate::tally::Tally;
+use crate::Scope;
+
+const TEST: &str = "digits";
+const SIZE: u32 = 8;
+
+/// Compares every pair, at every measure up to where all stand on one line.
+pub fn compare(program: &dyn Program, scope: Scope) -> Result<Tally, Failure> {
+    let mut slot = OneSlot::new(TEST, None, program);
+    for measure in (8..50).step_by(scope.choose(1, 5)) {
+        slot.set_up(measure, 0)?;
+        for left in of_class(27).chain(of_class(13)).chain(of_class(19)).chain(grouped()) {
+            for right in of_class(27).chain(of_class(13)) {
+                for text in texts(left, right, plain(19, SIZE)) {
+                    slot.replace(&text)?;
+                }
+            }
+        }
+    }
+    Ok(slot.tally)
+}
+
+/// The digits with the code points beside them, a letter, signs, the digits of other scripts that
+/// Unicode calls decimal too, and both ends of the code points.
+fn code_points() -> impl Iterator<Item = u32> {
+    let others = ['a', '%', '℃', '５', '٥', '\u{1D7D3}', '\0', char::MAX];
+    (u32::from('0') - 1..=u32::from('9') + 1).chain(others.map(u32::from))
+}
+
+fn of_class(class: u32) -> impl Iterator<Item = Words> {
+    code_points().map(move |code_point| [code_point, class, SIZE, usual_advance(class, SIZE), 0, 0])
+}
+
+/// Groups of one record and one ruby character.
+fn grouped() -> impl Iterator<Item = Words> {
+    code_points().map(|code_point| [code_point, 19, SIZE, SIZE, 1, 1])
+}
