@@ -31,7 +31,7 @@ fn slot_words(sheet: &[u32], slot: SlotNumber) -> &[u32] {
     }
 }
 
-// How many columns of a terminal a character takes: two, but for digits and Latin letters.
+// How many columns of a terminal a character takes: two, but for digits, Latin letters and %.
 fn columns(code: u32) -> u32
     ensures { λ r. ⌜ r ≤ 4 ⌝ }
 {

@@ -27,9 +27,9 @@ use texts::SORE_PART;
 use texts::SORE_PART_RUBY;
 
 fn set_up_clinics(sheet: &mut [u32]) {
-    say(b"Clinics 7, 8, 9 get slots 0, 1, 2 of measures 550, 560, 400 and indents 80, 80, 0.\n");
+    say(b"Clinics 7, 8, 9 get slots 0, 1, 2 of measures 540, 560, 400 and indents 80, 80, 0.\n");
     let clinics = [7, 8, 9];
-    let measures = [550, 560, 400];
+    let measures = [540, 560, 400];
     let indents = [80, 80, 0];
     let answer = sheet::set_up(sheet, &clinics, &measures, &indents);
     print_answer(answer.number, answer.place, b" slots");
@@ -53,10 +53,10 @@ fn write(
     print_answer(answer.number, answer.place, b" lines");
 }
 
-// Line 0 shrinks the space before its bracket. Line 1 would have room for 500, but not for 500mg, which never breaks:
-// it ends before the dose, and is stretched.
+// Line 0 shrinks the space before its bracket. Line 1 would have room for 10, but not for 10%, and line 2 for 500, but
+// not for 500mg: neither is ever broken, so the lines end before them, and are stretched.
 fn write_dose_note(sheet: &mut [u32]) {
-    say(b"\nClinic 7 writes a dose note into slot 0. The dose and its unit must stay together.\n");
+    say(b"\nClinic 7 writes a dose note into slot 0. A strength keeps its %, a dose its unit.\n");
     write(sheet, Clinic(7), SlotNumber(0), 0, 0, &DOSE_NOTE, NO_RUBY);
     say(b"Clinic 7 reads slot 0. Each character stands where its x is, ten units to a column.\n");
     print_slot(sheet, Clinic(7), SlotNumber(0));
@@ -79,10 +79,10 @@ fn write_care_note(sheet: &mut [u32]) {
 
 fn try_refused_edits(sheet: &mut [u32]) {
     say(b"\nClinic 8 changes the dose in slot 0.\n");
-    write(sheet, Clinic(8), SlotNumber(0), 11, 3, &NEW_DOSE, NO_RUBY);
-    say(b"Clinic 7 inserts a comma that is as wide as a kanji, before record 22 of slot 0.\n");
+    write(sheet, Clinic(8), SlotNumber(0), 17, 3, &NEW_DOSE, NO_RUBY);
+    say(b"Clinic 7 inserts a comma that is as wide as a kanji, before record 27 of slot 0.\n");
     let comma = [0x3001, 7, SIZE, SIZE, 0, 0];
-    let answer = sheet::edit(sheet, Clinic(7), SlotNumber(0), 22, 0, &comma);
+    let answer = sheet::edit(sheet, Clinic(7), SlotNumber(0), 27, 0, &comma);
     print_answer(answer.number, answer.place, b" lines");
     say(b"Clinic 9 writes a word that is wider than its measure into slot 2.\n");
     write(sheet, Clinic(9), SlotNumber(2), 0, 0, &LONG_WORD, NO_RUBY);
@@ -97,8 +97,8 @@ fn try_reads(sheet: &[u32]) {
 }
 
 fn change_dose(sheet: &mut [u32]) {
-    say(b"\nClinic 7 changes the dose in slot 0: records 11 to 13 go out, and three come in.\n");
-    write(sheet, Clinic(7), SlotNumber(0), 11, 3, &NEW_DOSE, NO_RUBY);
+    say(b"\nClinic 7 changes the dose in slot 0: records 17 to 19 go out, and three come in.\n");
+    write(sheet, Clinic(7), SlotNumber(0), 17, 3, &NEW_DOSE, NO_RUBY);
     say(b"Clinic 7 reads slot 0.\n");
     print_slot(sheet, Clinic(7), SlotNumber(0));
 }
