@@ -12,6 +12,7 @@ pub mod Breaking
 pub mod NoBreaking
 pub mod LongestLines
 pub mod Unique
+pub mod Percent
 pub mod Shares
 pub mod Ends
 pub mod GapLimits

@@ -12,4 +12,5 @@ pub mod Sheet
 pub mod Refusals
 pub mod Values
 pub mod Meanings
+pub mod Percent
 pub mod Computed
