@@ -1,6 +1,6 @@
--- Document 01, "Space between units" and "Breaks and adjustment" with request 01, read pair by pair: for two units,
--- whether the break between them is forbidden, and the gap's space and its capacity at each stage. One table, with one claim over all
--- rows that the checker computes. What a row wants is written by hand from the document's words.
+-- Document 01, "Space between units" and "Breaks and adjustment", with request 01, read pair by pair: for two units,
+-- whether the break between them is forbidden, and the gap's space and its capacity at each stage. One table, with one
+-- claim over all rows that the checker computes. What a row wants is written by hand from the papers' words.
 --
 --   at80, at240  a unit of a class, of that size: of 80, 1/2 is 40, 1/4 is 20 and 1/8 is 10; of 240 they are 120, 60
 --                and 30, so a fraction of the wrong side shows. The two differ in code point

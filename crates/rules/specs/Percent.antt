@@ -1,4 +1,5 @@
--- Document 02, request 01, "Five percent must stay together", said of two units and without the other forbidden breaks.
+-- Document 02, request 01, "Five percent must stay together", said of two units, apart from the other forbidden
+-- breaks.
 --
 --   digit        アラビア数字, U+0030 to U+0039, of class 27
 --   sign         後置省略記号, of class 13: % or ℃
