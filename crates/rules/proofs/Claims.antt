@@ -17,7 +17,7 @@ use Rattle.rules.specs.Adjustment.{amountsOf, totals, natural, lineOf}
 use Rattle.rules.specs.Refusals.{judged}
 use Rattle.rules.specs.Meanings.{All, lastOf, Maximal, Boundary, OneUnit, RubyPlaced, Choice, Fits, Longest}
 use Rattle.rules.specs.Meanings.{FirstWide, GapAt, WithinLimits, FirstStageFull, Apart}
-use Rattle.rules.specs.Percent.{digitAndSign}
+use Rattle.rules.specs.Percent.{digitAndPostfix}
 use Rattle.rules.proofs.Facts.{some-none}
 use Rattle.rules.proofs.Worked.{right}
 use Rattle.rules.proofs.Cases.{rows, cases-hold}
@@ -28,7 +28,7 @@ use Rattle.rules.proofs.NoBreaking.{breaking-exists, due-exactly, place
 use Rattle.rules.proofs.Breaking.{breaking-choice, lines-fit}
 use Rattle.rules.proofs.LongestLines.{lines-longest}
 use Rattle.rules.proofs.Unique.{only-lines}
-use Rattle.rules.proofs.Percent.{digit-decides, lines-hold-signs}
+use Rattle.rules.proofs.Percent.{digit-decides, lines-keep-postfix}
 use Rattle.rules.proofs.Ends.{ends-within, wide-ends, flush-ends, short-ends, final-ends}
 use Rattle.rules.proofs.GapLimits.{within-limits}
 use Rattle.rules.proofs.GapLimits.{first-stage-full}
@@ -112,9 +112,9 @@ lines-only m x us ls c f l h =
 pub digit-holds-exactly : (l r : Side) → l .class ≡ 27 → r .class ≡ 13 → forbidden l r ≡ within 0x30 0x39 (l .code)
 digit-holds-exactly l r e f = digit-decides l r e f
 
--- so no line ends between a digit and its sign
-pub signs-kept : (m x : ℕ) (us : List TextUnit) → Apart digitAndSign (breaking m x (runs us))
-signs-kept m x us = lines-hold-signs m x us
+-- so no line ends between a digit and its postfix
+pub postfix-kept : (m x : ℕ) (us : List TextUnit) → Apart digitAndPostfix (breaking m x (runs us))
+postfix-kept m x us = lines-keep-postfix m x us
 
 -- Adjustment -------------------------------------------------------------------------------------------------------
 -- of a line l that fits the measure m from x on, final or not

@@ -217,7 +217,7 @@ wanted p = p .want
 pub ruled : Pair → Between
 ruled p = record { forbidden-break = forbidden (p .left) (p .right); gap = gapOf (p .left) (p .right) }
 
--- every row comes out as document 01 has it
+-- every row comes out as the papers have it
 pub pairs-hold : map ruled pairs ≡ map wanted pairs
 unfolding computed pairs wanted ruled
 pairs-hold = refl

@@ -1,5 +1,5 @@
 -- Laws of request 01: between classes 27 and 13 the left code point decides, and no line ends between a digit and its
--- sign. Assumes nothing.
+-- postfix. Assumes nothing.
 use mathlib.Core.Path.{_≡_, sym, _∙_}
 use Prim.Native.Nat.{ℕ}
 use mathlib.Core.Bool.{Bool, true, false, and-eq-true-iff}
@@ -12,7 +12,7 @@ use Rattle.rules.specs.Sides.{Side, forbidden}
 use Rattle.rules.specs.Groups.{TextUnit, side}
 use Rattle.rules.specs.Breaks.{bound, runs, breaking}
 use Rattle.rules.specs.Meanings.{Apart, apart-none, apart-one, apart-more, lastIn}
-use Rattle.rules.specs.Percent.{digitAndSign}
+use Rattle.rules.specs.Percent.{digitAndPostfix}
 use Rattle.rules.proofs.Facts.{tested, true-false}
 use Rattle.rules.proofs.Breaking.{breaking-choice}
 
@@ -20,8 +20,8 @@ pub digit-decides : (l r : Side) → l .class ≡ 27 → r .class ≡ 13 → for
 unfolding forbidden
 digit-decides l r e f = rw (e, f)
 
-sign-bound : (u v : TextUnit) → digitAndSign u v ≡ true → bound u v ≡ true
-sign-bound u v h =
+postfix-bound : (u v : TextUnit) → digitAndPostfix u v ≡ true → bound u v ≡ true
+postfix-bound u v h =
     let both = and-eq-true-iff _ (eqb (side v .class) 13) .0 h in
     let digit = and-eq-true-iff (eqb (side u .class) 27) (within 0x30 0x39 (side u .code)) .0 (both .0) in
     digit-decides (side u) (side v) (eqb-true _ _ (digit .0)) (eqb-true _ _ (both .1)) ∙ digit .1
@@ -37,5 +37,5 @@ module _ {A : Type 0} (s t : A → A → Bool) (stronger : (a b : A) → t a b �
   apart-stronger (apart-more {l = l} {k = k} h hs) =
       apart-more (unmet (lastIn l) (k .first) h) (apart-stronger hs)
 
-pub lines-hold-signs : (m x : ℕ) (us : List TextUnit) → Apart digitAndSign (breaking m x (runs us))
-lines-hold-signs m x us = apart-stronger bound digitAndSign sign-bound (breaking-choice m x us .permitted)
+pub lines-keep-postfix : (m x : ℕ) (us : List TextUnit) → Apart digitAndPostfix (breaking m x (runs us))
+lines-keep-postfix m x us = apart-stronger bound digitAndPostfix postfix-bound (breaking-choice m x us .permitted)

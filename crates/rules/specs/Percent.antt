@@ -2,7 +2,7 @@
 -- breaks.
 --
 --   digit        アラビア数字, U+0030 to U+0039, of class 27
---   sign         後置省略記号, of class 13: % or ℃
+--   postfix      後置省略記号, a postfixed abbreviation, of class 13: % or ℃
 --
 -- Assumes nothing.
 use mathlib.Core.Bool.{Bool, _&&_}
@@ -10,6 +10,6 @@ use lib.Dec.{eqb}
 use Rattle.rules.specs.Basics.{within}
 use Rattle.rules.specs.Groups.{TextUnit, side}
 
--- a digit, and a sign after it
-abbrev pub digitAndSign : TextUnit → TextUnit → Bool
-digitAndSign u v = eqb (side u .class) 27 && within 0x30 0x39 (side u .code) && eqb (side v .class) 13
+-- a digit, and a postfix after it
+abbrev pub digitAndPostfix : TextUnit → TextUnit → Bool
+digitAndPostfix u v = eqb (side u .class) 27 && within 0x30 0x39 (side u .code) && eqb (side v .class) 13

@@ -34,7 +34,7 @@ fn a_class_set_as_another() {
 }
 
 #[test]
-fn digits_and_the_signs_after_them() {
+fn digits_and_the_postfix_after_them() {
     for fault in DIGITS {
         let failure = find(fault, &[digits::compare]);
         println!("{}", failure.in_one_line());

@@ -189,15 +189,15 @@ mod tests {
         assert!(gap((8, 0x2014), (13, 0x2014)).permits_break);
     }
 
-    /// Request 01. What follows may have any code point, and no other class holds its sign.
+    /// Request 01. What follows may have any code point, and no other pair is held.
     #[test]
-    fn a_digit_holds_the_sign_after_it() {
+    fn a_digit_holds_the_postfix_after_it() {
         let digits: Vec<u32> = "0123456789".chars().map(u32::from).collect();
         for code_point in (0..0x1_0000).filter(|code_point| !(0xD800..0xE000).contains(code_point)) {
             let is_digit = digits.contains(&code_point);
-            for sign in ['%', '℃', '5'].map(u32::from) {
-                assert_eq!(gap((27, code_point), (13, sign)).permits_break, !is_digit, "{code_point:04X}");
-                assert_eq!(gap((27, code_point), (13, sign)).opens, !is_digit, "{code_point:04X}");
+            for postfix in ['%', '℃', '5'].map(u32::from) {
+                assert_eq!(gap((27, code_point), (13, postfix)).permits_break, !is_digit, "{code_point:04X}");
+                assert_eq!(gap((27, code_point), (13, postfix)).opens, !is_digit, "{code_point:04X}");
             }
             for (l, r) in [(19, 13), (13, 13), (27, 12), (27, 14), (27, 19), (13, 27)] {
                 assert!(gap((l, code_point), (r, '%'.into())).permits_break, "{l} before {r}");

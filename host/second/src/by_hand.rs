@@ -43,9 +43,9 @@ const fn letter(character: char) -> Words {
     [character as u32, 27, 80, 40, 0, 0]
 }
 
-/// Five records in measure 240: the third goes to the next line with the sign after it.
+/// Five records in measure 240: the third goes to the next line with the postfix after it.
 const HELD: Result<&[Line], usize> = Ok(&[(&[0, 160], 240, 1), (&[0, 40, 120], 200, 3)]);
-/// It ends the first line, and the sign starts the next.
+/// It ends the first line, and the postfix starts the next.
 const PARTED: Result<&[Line], usize> = Ok(&[(&[0, 80, 200], 240, 1), (&[0, 80], 160, 3)]);
 const PARTED_WIDE: Result<&[Line], usize> = Ok(&[(&[0, 80, 160], 240, 1), (&[0, 80], 160, 3)]);
 

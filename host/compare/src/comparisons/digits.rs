@@ -29,7 +29,7 @@ pub fn compare(program: &dyn Program, scope: Scope) -> Result<Tally, Failure> {
     Ok(slot.tally)
 }
 
-/// The digits with the code points beside them, a letter, signs, the digits of other scripts that
+/// The digits with the code points beside them, a letter, postfixes, the digits of other scripts that
 /// Unicode calls decimal too, and both ends of the code points.
 fn code_points() -> impl Iterator<Item = u32> {
     let others = ['a', '%', '℃', '５', '٥', '\u{1D7D3}', '\0', char::MAX];

@@ -93,7 +93,7 @@ pub enum Fault {
     NarrowRuby,
     /// Two dashes hold together whatever their code points.
     DashesAlike,
-    /// A digit does not hold the sign after it.
+    /// A digit does not hold the postfix after it.
     DigitParted,
     /// Of the digits, 9 does not hold it.
     NineParted,
@@ -155,7 +155,7 @@ pub const SINGLE: [Fault; 40] = [
     Fault::RubyOneMore,
 ];
 
-/// What holds the sign after it (document 02, request 01).
+/// What holds the postfix after it (document 02, request 01).
 pub const DIGITS: [Fault; 4] =
     [Fault::DigitParted, Fault::NineParted, Fault::LetterHeld, Fault::WideDigitHeld];
 
