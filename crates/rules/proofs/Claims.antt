@@ -7,10 +7,10 @@ use mathlib.Core.List.{List, _∷_, _++_, map}
 use mathlib.Core.Logic.{_↔_}
 use mathlib.Core.Option.{none, some}
 use lib.ListN.{length, getD}
-use Rattle.rules.specs.Basics.{Run, whole, within}
+use Rattle.rules.specs.Basics.{Run, whole}
 use Rattle.rules.specs.Records.{Rec}
 use Rattle.rules.specs.Groups.{TextUnit, sameGroup, units, advance, groupAdvance, baseOffsets, rubyOffset}
-use Rattle.rules.specs.Sides.{Side, forbidden}
+use Rattle.rules.specs.Sides.{Side, arabicDigit, forbidden}
 use Rattle.rules.specs.Gaps.{Gap}
 use Rattle.rules.specs.Breaks.{bound, width, runs, noBreaking, breaking}
 use Rattle.rules.specs.Adjustment.{amountsOf, totals, natural, lineOf}
@@ -109,7 +109,7 @@ lines-only m x us ls c f l h =
     (lines-longest m x us)
 
 -- request 01: between a class 27 and a class 13 a break is forbidden exactly after a digit
-pub digit-holds-exactly : (l r : Side) → l .class ≡ 27 → r .class ≡ 13 → forbidden l r ≡ within 0x30 0x39 (l .code)
+pub digit-holds-exactly : (l r : Side) → l .class ≡ 27 → r .class ≡ 13 → forbidden l r ≡ arabicDigit (l .code)
 digit-holds-exactly l r e f = digit-decides l r e f
 
 -- so no line ends between a digit and its postfix

@@ -8,8 +8,7 @@ use mathlib.Core.Logic.{inl, inr}
 use lib.Dec.{leb, eqb}
 use borrow.Author.Tests.{leb-true, leb-false, le-leb, lt-leb, eq-eqb, ne-eqb}
 use Rattle.rules.specs.Basics.{isIn, within}
-use Rattle.rules.specs.Sides.{Side}
-use Rattle.rules.specs.Sides.{forbidden}
+use Rattle.rules.specs.Sides.{Side, arabicDigit, forbidden}
 use Rattle.rules.proofs.Facts.{ordered}
 
 -- 2 to 11 without 8 are 2 to 7, 9, 10 and 11
@@ -97,7 +96,7 @@ module _ (l r : Side) where
 
   -- where L is 27
   pub tied-western : Undecided l r → l .class ≡ 27 →
-      eqb (r .class) 27 || (eqb (r .class) 13 && within 0x30 0x39 (l .code)) ≡ forbidden l r
+      eqb (r .class) 27 || (arabicDigit (l .code) && eqb (r .class) 13) ≡ forbidden l r
   unfolding forbidden
   tied-western u e = rw (u .by-right, u .by-dashes, e)
 

@@ -2,7 +2,7 @@
 ghost use mathlib.Core.Path.{_≡_};
 ghost use mathlib.Core.Bool.{cond};
 ghost use Rattle.rules.specs.Space.{rule-f, rule-g, rule-h, no-part, quarter, half, spaced};
-ghost use Rattle.rules.specs.Sides.{forbidden};
+ghost use Rattle.rules.specs.Sides.{arabicDigit, forbidden};
 ghost use Rattle.rules.specs.Gaps.{early, late, gapBy, weight as weightOf, gapOf};
 ghost use Rattle.rules.specs.Values.{sideOf, gapFrom, ruleFrom, rigidGap, gapUnder};
 use crate::basics::between;
@@ -22,6 +22,13 @@ pub struct Gap {
     pub stretch2: u32,
 }
 
+// 0 to 9.
+fn arabic_digit(code: u32) -> bool
+    ensures { λ b. ⌜ b ≡ arabicDigit code ⌝ }
+{
+    between(0x30, 0x39, code)
+}
+
 // A line may not be broken between the two. The class on the right decides most often, so it is asked first.
 pub fn break_forbidden(l: Side, r: Side) -> bool
     ensures { λ b. ⌜ b ≡ forbidden (sideOf l) (sideOf r) ⌝ }
@@ -39,7 +46,7 @@ pub fn break_forbidden(l: Side, r: Side) -> bool
     }
     // 5% and 25℃ stay together, a% need not
     if left == 27 {
-        return (right == 27) | ((right == 13) & between(0x30, 0x39, l.code));
+        return (right == 27) | (arabic_digit(l.code) & (right == 13));
     }
     one_of2(left, 1, 12)
 }

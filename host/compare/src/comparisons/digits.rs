@@ -1,12 +1,14 @@
 //! Every pair of classes 27 and 13, in either order, with code points around the digits (document 02,
 //! request 01), and digits of class 19 before them, alone and in a group.
 
-use crate::calls::Words;
+use crate::calls::{Call, Case, Words};
 use crate::comparisons::pairs::texts;
 use crate::failure::Failure;
 use crate::generate::{plain, usual_advance};
+use crate::layout::{RECORDS, SLOT};
 use crate::one_slot::OneSlot;
 use crate::program::Program;
+use crate::run::run;
 use crate::tally::Tally;
 use crate::Scope;
 
@@ -26,7 +28,28 @@ pub fn compare(program: &dyn Program, scope: Scope) -> Result<Tally, Failure> {
             }
         }
     }
+    let case = stored();
+    let seen = run(program, &case).map_err(|_| Failure::new(TEST, None, program, &case))?;
+    slot.tally.add(&seen);
     Ok(slot.tally)
+}
+
+/// Slots in which a digit and the postfix after it were parted before request 01. Here they are parted
+/// as a letter and its postfix, and the letter is then written over.
+fn stored() -> Case {
+    let text = [plain(19, SIZE), plain(27, SIZE), plain(13, SIZE)].concat();
+    // One less than the letter and its postfix take together.
+    let measure = SIZE + SIZE / 2 - 1;
+    let calls = code_points().flat_map(|word| {
+        [
+            Call::SetUp { clinics: vec![7], measures: vec![measure], indents: vec![0] },
+            Call::replace(7, 0, &text),
+            Call::Damage { at: RECORDS + 6, word },
+            Call::Read { caller: 7, slot: 0 },
+            Call::replace(7, 3, &text),
+        ]
+    });
+    Case { length: SLOT, junk: None, calls: calls.collect() }
 }
 
 /// The digits with the code points beside them, a letter, postfixes, the digits of other scripts that

@@ -21,7 +21,7 @@ open-yet c =
     (c .if1 .came)
 
 returns-3 : tie.Need-returns-3
-returns-3 c = rw (c .between2 .ensures) (tied-western _ _ (open-yet (c .before .before)) (c .before .if4 .taken))
+returns-3 c = rw (c .arabic-digit .ensures) (tied-western _ _ (open-yet (c .before .before)) (c .before .if4 .taken))
 
 returns-4 : tie.Need-returns-4
 returns-4 c = rw (c .one-of2 .ensures) (tied-left _ _ (open-yet (c .before .before)) (c .before .if4 .left))
