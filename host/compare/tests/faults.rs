@@ -15,31 +15,28 @@ fn find(fault: Fault, comparisons: &[Comparison]) -> Failure {
     failure
 }
 
+/// Each is found by these comparisons, in a case of at most so many calls.
+fn each_is_found(faults: &[Fault], comparisons: &[Comparison], most_calls: usize) {
+    for &fault in faults {
+        let failure = find(fault, comparisons);
+        println!("{}", failure.in_one_line());
+        assert!(failure.calls <= most_calls, "{fault:?}: {failure}");
+    }
+}
+
 #[test]
 fn single_faults() {
-    for fault in SINGLE {
-        let failure = find(fault, &ALL);
-        println!("{}", failure.in_one_line());
-        assert!(failure.calls <= 6, "{fault:?}: {failure}");
-    }
+    each_is_found(&SINGLE, &ALL, 6);
 }
 
 #[test]
 fn a_class_set_as_another() {
-    for fault in CLASSES_AS {
-        let failure = find(fault, &[pairs::compare]);
-        println!("{}", failure.in_one_line());
-        assert!(failure.calls <= 3, "{fault:?}: {failure}");
-    }
+    each_is_found(&CLASSES_AS, &[pairs::compare], 3);
 }
 
 #[test]
 fn digits_and_the_postfix_after_them() {
-    for fault in DIGITS {
-        let failure = find(fault, &[digits::compare]);
-        println!("{}", failure.in_one_line());
-        assert!(failure.calls <= 3, "{fault:?}: {failure}");
-    }
+    each_is_found(&DIGITS, &[digits::compare], 3);
 }
 
 #[test]

@@ -98,9 +98,9 @@ pub const FIVE_PERCENT: [Case; 13] = [
     Case::new("漢漢:%漢", &[K, K, letter(':'), PERCENT, K], 240, PARTED),
     Case::new("漢漢5%漢, 5 of class 19", &[K, K, WIDE_FIVE, PERCENT, K], 240, PARTED_WIDE),
     Case::new("漢漢5%漢, 5 with ruby", &[K, K, GROUPED_FIVE, PERCENT, K], 240, PARTED_WIDE),
-    Case::new("漢5%, a unit too wide", &[K, FIVE, PERCENT], 119, Err(1)),
+    Case::new("漢5%, 1 too wide", &[K, FIVE, PERCENT], 119, Err(1)),
     Case::new("漢5%", &[K, FIVE, PERCENT], 120, Ok(&[(&[0], 80, 2), (&[0, 40], 120, 3)])),
-    Case::new("漢10%, a unit too wide", &[K, letter('1'), letter('0'), PERCENT], 159, Err(1)),
+    Case::new("漢10%, 1 too wide", &[K, letter('1'), letter('0'), PERCENT], 159, Err(1)),
 ];
 
 /// All cases, by the paper that asks for them.
