@@ -1,5 +1,5 @@
--- What is proved of document 01's rules, in reading order: each claim is stated in the words of specs/Meanings.antt
--- and proved by one citation. Assumes nothing.
+-- What is proved of document 01's rules, as document 02's requests amend them, in reading order: each claim is stated
+-- in the words of specs/Meanings.antt and proved by one citation. Assumes nothing.
 use mathlib.Core.Path.{_≡_, _∙_, sym}
 use Prim.Native.Nat.{ℕ, _+_, _/_, _≤_, _<_}
 use mathlib.Core.Bool.{Bool, true, false}

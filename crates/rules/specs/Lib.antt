@@ -1,5 +1,5 @@
--- The rules of document 01, a file to a section. A reader's order is that of the lines below; what the definitions
--- mean, said without their algorithms, is `Meanings`.
+-- The rules of document 01 as document 02's requests amend them, a file to a section. A reader's order is that of the
+-- lines below; what the definitions mean, said without their algorithms, is `Meanings`, and `Percent` for request 01.
 pub mod Basics
 pub mod Records
 pub mod Space

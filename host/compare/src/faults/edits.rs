@@ -32,6 +32,7 @@ fn with_changed_input(fault: Fault, sheet: &mut [u32], edit: Edit<'_>) -> EditAn
         Fault::NineParted => with_records_as(sheet, edit, |record| western_as(record, '9'..='9', 'a')),
         Fault::LetterHeld => with_records_as(sheet, edit, |record| western_as(record, '\0'..=char::MAX, '5')),
         Fault::WideDigitHeld => with_records_as(sheet, edit, |record| western_as(record, '０'..='９', '5')),
+        Fault::DigitOnTheRight => with_text_as(sheet, edit, with_code_points_of_the_next),
         Fault::LargeSizes => with_records_as(sheet, edit, with_size_in_limits),
         Fault::CallerZero if edit.caller == 0 && clinic == 0 => {
             with_head_word(sheet, Edit { caller: 1, ..edit }, 0, 1)
@@ -64,13 +65,17 @@ fn with_head_word(sheet: &mut [u32], edit: Edit<'_>, at: usize, word: u32) -> Ed
 
 /// The edit in which records are set as if they were others.
 fn with_records_as(sheet: &mut [u32], edit: Edit<'_>, other: impl Fn(Words) -> Words) -> EditAnswer {
+    with_text_as(sheet, edit, |records| records.iter().map(|&record| other(record)).collect())
+}
+
+/// The edit in which the stored records and the inserted ones are set as if they were others.
+fn with_text_as(sheet: &mut [u32], edit: Edit<'_>, other: impl Fn(&[Words]) -> Vec<Words>) -> EditAnswer {
     let mut records = stored_records(sheet, edit.slot);
     let (inserted, cut_short) = edit.inserted.as_chunks::<6>();
-    let changed: Vec<Words> = records.iter().map(|&record| other(record)).collect();
-    let mut changed_words: Vec<u32> = inserted.iter().flat_map(|&record| other(record)).collect();
+    let mut changed_words = other(inserted).concat();
     changed_words.extend_from_slice(cut_short);
 
-    store_records(sheet, edit.slot, &changed);
+    store_records(sheet, edit.slot, &other(&records));
     let answer = Second.edit(sheet, Edit { inserted: &changed_words, ..edit });
     if answer.number == 0 {
         let place = edit.place as usize;
@@ -163,6 +168,17 @@ fn western_as(mut record: Words, those: RangeInclusive<char>, other: char) -> Wo
         record[0] = other.into();
     }
     record
+}
+
+/// The records, each of class 27 with the code point of the class 13 after it.
+fn with_code_points_of_the_next(records: &[Words]) -> Vec<Words> {
+    let mut changed = records.to_vec();
+    for (record, next) in changed.iter_mut().zip(records.iter().skip(1)) {
+        if record[1] == 27 && next[1] == 13 {
+            record[0] = next[0];
+        }
+    }
+    changed
 }
 
 /// The record, of size 4,000 where its own is larger and up to 4,096, its advance in proportion.

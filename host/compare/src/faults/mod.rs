@@ -101,6 +101,8 @@ pub enum Fault {
     LetterHeld,
     /// Full-width digits of class 27 hold it too.
     WideDigitHeld,
+    /// A postfix that is itself a digit is held, and no other.
+    DigitOnTheRight,
     /// Ruby offsets are rounded up.
     RubyUp,
     /// Ruby place takes an index equal to the count.
@@ -156,8 +158,8 @@ pub const SINGLE: [Fault; 40] = [
 ];
 
 /// What holds the postfix after it (document 02, request 01).
-pub const DIGITS: [Fault; 4] =
-    [Fault::DigitParted, Fault::NineParted, Fault::LetterHeld, Fault::WideDigitHeld];
+pub const DIGITS: [Fault; 5] =
+    [Fault::DigitParted, Fault::NineParted, Fault::LetterHeld, Fault::WideDigitHeld, Fault::DigitOnTheRight];
 
 /// A class set as another: each of these changes some rule.
 pub const CLASSES_AS: [Fault; 20] = [
