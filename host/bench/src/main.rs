@@ -5,6 +5,7 @@
 
 mod programs;
 mod report;
+mod texts;
 mod timing;
 mod work;
 

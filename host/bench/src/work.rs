@@ -3,14 +3,13 @@
 use std::hint::black_box;
 
 use crate::programs::{self, Program};
+use crate::texts::{leaflets, record, text, Words, LEAFLETS, LEAFLET_RECORDS, SIZE};
 use crate::timing::Cell;
 
 const SLOT: usize = 2_824;
 const CLINIC: u32 = 7;
-/// Twenty characters of size 80.
-const MEASURE: u32 = 1_600;
-
-type Words = [u32; 6];
+/// Twenty characters.
+const MEASURE: u32 = 20 * SIZE;
 
 /// The rows of the two yardsticks, and their column.
 pub const MEMSET: &str = "memset of a slot";
@@ -21,17 +20,20 @@ pub const PLAIN: &str = "plain";
 pub const ONE_OF_256: &str = "replace 1 of 256";
 pub const ONE_OF_128: &str = "replace 1 of 128";
 pub const ONE_OF_256_ON_64_SLOTS: &str = "replace 1 of 256, 64 slots";
+/// One text edited again and again is soon learnt by branch prediction: this row has too many for that.
+const ONE_OF_256_OVER_64_TEXTS: &str = "replace 1 of 256, 64 texts";
 
 /// Makes a row's cell for a program.
 type Row = fn(Program) -> Cell;
 
-const ROWS: [Row; 9] = [
+const ROWS: [Row; 10] = [
     |program| replace_all(program, "replace all 256"),
     |program| replace_one(program, ONE_OF_256, 256, 1),
     |program| replace_one(program, ONE_OF_128, 128, 1),
     |program| replace_one(program, "replace 1 of 64", 64, 1),
     |program| replace_one(program, ONE_OF_256_ON_64_SLOTS, 256, 64),
-    |program| refused(program, "refused with 3", CLINIC + 1, record(19, 80), 3),
+    |program| replace_one_of_each(program, ONE_OF_256_OVER_64_TEXTS),
+    |program| refused(program, "refused with 3", CLINIC + 1, record(19, SIZE), 3),
     |program| refused(program, "refused with 10", CLINIC, record(19, 4_000), 10),
     |program| read(program, "read"),
     |program| set_up(program, "set-up of 64 slots"),
@@ -72,12 +74,30 @@ fn replace_all(program: Program, row: &'static str) -> Cell {
 /// Replaces one record in the middle by another, in the last slot of a sheet.
 fn replace_one(program: Program, row: &'static str, records: u32, slots: u32) -> Cell {
     let mut sheet = composed_sheet(program, records, slots);
-    let others = [record(15, 80), record(19, 80)];
+    let others = [record(15, SIZE), record(19, SIZE)];
     let mut turn = 0;
     Cell::new(row, program.name, move || {
         turn ^= 1;
         let inserted = black_box(&others[turn]);
         let number = (program.edit)(black_box(&mut sheet), CLINIC, slots - 1, records / 2, 1, inserted);
+        assert_eq!(number, 0);
+    })
+}
+
+/// Replaces one record in the middle by another, in each slot of a sheet of leaflets in turn. The other changes with
+/// every time round, so that each edit changes its slot.
+fn replace_one_of_each(program: Program, row: &'static str) -> Cell {
+    let mut sheet = fresh_sheet(program, LEAFLETS);
+    for (slot, leaflet) in (0..).zip(leaflets()) {
+        fill(program, &mut sheet, slot, &leaflet);
+    }
+    let others = [record(15, SIZE), record(19, SIZE)];
+    let mut turn = 0;
+    Cell::new(row, program.name, move || {
+        let (round, slot) = (turn / LEAFLETS, turn % LEAFLETS);
+        turn = (turn + 1) % (2 * LEAFLETS);
+        let inserted = black_box(&others[round as usize]);
+        let number = (program.edit)(black_box(&mut sheet), CLINIC, slot, LEAFLET_RECORDS / 2, 1, inserted);
         assert_eq!(number, 0);
     })
 }
@@ -114,30 +134,51 @@ fn set_up(program: Program, row: &'static str) -> Cell {
 
 /// A sheet whose last slot holds a text of this many records.
 fn composed_sheet(program: Program, records: u32, slots: u32) -> Vec<u32> {
+    let mut sheet = fresh_sheet(program, slots);
+    fill(program, &mut sheet, slots - 1, &text(records));
+    sheet
+}
+
+fn fresh_sheet(program: Program, slots: u32) -> Vec<u32> {
     let mut sheet = vec![0; slots as usize * SLOT];
     let of_all = |word| vec![word; slots as usize];
     let number = (program.set_up)(&mut sheet, &of_all(CLINIC), &of_all(MEASURE), &of_all(0));
     assert_eq!(number, 0);
-    let number = (program.edit)(&mut sheet, CLINIC, slots - 1, 0, 0, &text(records));
-    assert_eq!(number, 0);
     sheet
 }
 
-fn record(class: u32, size: u32) -> Words {
-    let advance = if matches!(class, 1 | 2 | 5 | 6 | 7 | 27) { size / 2 } else { size };
-    [0x3042, class, size, advance, 0, 0]
+/// Puts a text into a fresh slot.
+fn fill(program: Program, sheet: &mut [u32], slot: u32, text: &[u32]) {
+    let number = (program.edit)(sheet, CLINIC, slot, 0, 0, text);
+    assert_eq!(number, 0);
 }
 
-/// A text with ideographs, kana, punctuation, a Western word and a group with ruby, again and again.
-fn text(records: u32) -> Vec<u32> {
-    const CLASSES: [u32; 22] =
-        [19, 15, 19, 19, 15, 7, 16, 16, 10, 16, 15, 27, 27, 27, 15, 1, 19, 19, 2, 15, 15, 6];
-    let records = records as usize;
-    let mut words: Vec<Words> = Vec::with_capacity(records);
-    while words.len() < records {
-        words.extend(CLASSES.map(|class| record(class, 80)));
-        words.extend([[0x6F22, 19, 80, 80, 1, 5]; 2]);
+#[cfg(test)]
+mod tests {
+    use super::*;
+
+    /// Two rounds of the leaflets. A call that is not answered as its row expects panics.
+    #[test]
+    fn calls_are_answered_as_their_rows_expect() {
+        for mut cell in cells() {
+            (0..2 * LEAFLETS).for_each(|_| (cell.call)());
+        }
     }
-    words.truncate(records);
-    words.concat()
+
+    #[test]
+    fn each_edit_of_a_leaflet_changes_it() {
+        let watched = Program {
+            name: "watched",
+            edit: |sheet, caller, slot, place, deleted, inserted| {
+                let before = sheet.to_vec();
+                let edit = second::Edit { caller, slot, place, deleted, inserted };
+                let number = second::edit(sheet, edit).number;
+                assert!(*sheet != *before, "slot {slot} holds that record already");
+                number
+            },
+            ..programs::all()[0]
+        };
+        let mut cell = replace_one_of_each(watched, ONE_OF_256_OVER_64_TEXTS);
+        (0..3 * LEAFLETS).for_each(|_| (cell.call)());
+    }
 }
