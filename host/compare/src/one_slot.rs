@@ -5,7 +5,7 @@ use second::Edit;
 
 use crate::calls::{Call, Case};
 use crate::failure::Failure;
-use crate::layout::SLOT;
+use crate::layout::{LINES, SLOT};
 use crate::program::{Program, Second};
 use crate::tally::{Outcome, Tally};
 
@@ -65,6 +65,13 @@ impl<'a> OneSlot<'a> {
             self.records.extend_from_slice(records);
         }
         Ok(())
+    }
+
+    /// How many records stand on the first line of the text that both programs hold.
+    pub fn on_first_line(&self) -> usize {
+        let (records, lines) = (self.second[3], self.second[4]);
+        let next_line = self.second[LINES + 3];
+        (if lines > 1 { next_line } else { records }) as usize
     }
 
     /// A failure where answers or words differ after this call.

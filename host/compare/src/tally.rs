@@ -1,10 +1,23 @@
-//! What was answered how often, and whether what must come up did.
+//! What was answered and composed how often, and whether what must come up did.
 
 use std::collections::BTreeMap;
 use std::fmt;
 use std::ops::Range;
 
-/// What a call answered.
+/// How a line is brought to the measure. Stages are 1 and 2; the last that was needed counts.
+#[derive(Debug, Clone, Copy, PartialEq, Eq, PartialOrd, Ord)]
+pub enum Way {
+    /// It is left as it is.
+    Natural,
+    /// It is shrunk, up to this stage.
+    Shrunk(u32),
+    /// It is stretched, up to this stage.
+    Stretched(u32),
+    /// It would be stretched, and stage 2 has no gap.
+    Short,
+}
+
+/// What a call answered, or how a line was composed that a comparison was after.
 #[derive(Debug, Clone, Copy, PartialEq, Eq, PartialOrd, Ord)]
 pub enum Outcome {
     /// Set-up, with this number.
@@ -19,6 +32,10 @@ pub enum Outcome {
     ReadRefused(u32),
     /// Ruby place, with this number.
     RubyPlace(u32),
+    /// A line that is not the final one, brought to the measure so.
+    Line(Way),
+    /// A final line, brought to the measure so.
+    FinalLine(Way),
 }
 
 impl Outcome {
@@ -59,7 +76,8 @@ impl Tally {
 
     /// All calls that were answered.
     pub fn calls(&self) -> u64 {
-        self.0.values().sum()
+        let is_line = |outcome: &Outcome| matches!(outcome, Outcome::Line(_) | Outcome::FinalLine(_));
+        self.0.iter().filter(|(outcome, _)| !is_line(outcome)).map(|(_, count)| count).sum()
     }
 
     /// Those of these outcomes that were seen fewer times than `least`.

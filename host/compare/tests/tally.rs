@@ -2,8 +2,8 @@
 
 use compare::comparisons::cases;
 use compare::program::Second;
-use compare::tally::Outcome::{self, ReadLines, ReadNoLines, ReadRefused};
-use compare::tally::Tally;
+use compare::tally::Outcome::{self, Edit, FinalLine, Line, ReadLines, ReadNoLines, ReadRefused};
+use compare::tally::{Tally, Way};
 use compare::Scope;
 
 /// A tally of each outcome of a read but this one.
@@ -34,4 +34,11 @@ fn reads_are_told_apart_by_their_lines() {
     assert_eq!(tally.rare(1, Outcome::READS), [1, 2, 3, 4].map(ReadRefused));
     assert_eq!(tally.rare(6, [ReadLines, ReadNoLines]), [ReadNoLines]);
     assert_eq!(tally.rare(5, [ReadLines, ReadNoLines]), []);
+}
+
+#[test]
+fn lines_are_not_counted_as_calls() {
+    let mut tally = Tally::default();
+    [Edit(0), Line(Way::Natural), FinalLine(Way::Shrunk(1))].into_iter().for_each(|seen| tally.count(seen));
+    assert_eq!(tally.calls(), 1);
 }

@@ -2,6 +2,7 @@
 
 pub mod cases;
 pub mod digits;
+pub mod gaps;
 pub mod junk;
 pub mod limits;
 pub mod pairs;
@@ -19,13 +20,14 @@ use crate::Scope;
 pub type Comparison = fn(&dyn Program, Scope) -> Result<Tally, Failure>;
 
 /// All comparisons, the quickest first.
-pub const ALL: [Comparison; 9] = [
+pub const ALL: [Comparison; 10] = [
     cases::compare,
     ruby::compare,
     limits::compare,
     junk::compare,
     digits::compare,
     pairs::compare,
+    gaps::compare,
     paragraphs::compare,
     sequences::compare,
     short::compare,

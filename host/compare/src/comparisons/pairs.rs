@@ -19,7 +19,7 @@ pub fn compare(program: &dyn Program, scope: Scope) -> Result<Tally, Failure> {
     let mut slot = OneSlot::new(TEST, None, program);
     for measure in (8..100).rev().step_by(scope.choose(1, 7)) {
         slot.set_up(measure, 0)?;
-        for_each_pair([8, 16], |left, right| {
+        for_each_pair(&[8, 16], |left, right| {
             for text in texts(left, right, plain(19, 8)) {
                 slot.replace(&text)?;
             }
@@ -28,7 +28,7 @@ pub fn compare(program: &dyn Program, scope: Scope) -> Result<Tally, Failure> {
     }
     if scope == Scope::Full {
         let mut measures = Vec::new();
-        for_each_pair([80, 120], |left, right| {
+        for_each_pair(&[80, 120], |left, right| {
             measures.extend(break_points(left, right));
             Ok(())
         })?;
@@ -36,7 +36,7 @@ pub fn compare(program: &dyn Program, scope: Scope) -> Result<Tally, Failure> {
         measures.dedup();
         for measure in measures {
             slot.set_up(measure, 0)?;
-            for_each_pair([80, 120], |left, right| {
+            for_each_pair(&[80, 120], |left, right| {
                 slot.replace(&[left, right].concat())?;
                 slot.replace(&[left, right, plain(19, 80)].concat())
             })?;
@@ -46,12 +46,12 @@ pub fn compare(program: &dyn Program, scope: Scope) -> Result<Tally, Failure> {
 }
 
 /// Calls `each` with every pair of units in these sizes, with equal code points and with others.
-fn for_each_pair(
-    sizes: [u32; 2],
+pub fn for_each_pair(
+    sizes: &[u32],
     mut each: impl FnMut(Words, Words) -> Result<(), Failure>,
 ) -> Result<(), Failure> {
-    for left_size in sizes {
-        for right_size in sizes {
+    for &left_size in sizes {
+        for &right_size in sizes {
             for left in units(left_size, 1) {
                 for right in units(right_size, 2) {
                     each(left, right)?;
