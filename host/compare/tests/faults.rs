@@ -1,9 +1,10 @@
 //! Every planted fault is found, and the case that shows it is made small.
 
-use compare::comparisons::{digits, pairs, paragraphs, sequences, short, Comparison, ALL};
+use compare::comparisons::{digits, gaps, pairs, paragraphs, sequences, short, Comparison, ALL};
 use compare::failure::{Failure, NOT_SEEN_AGAIN};
-use compare::faults::{Fault, CLASSES_AS, DIGITS, SINGLE};
-use compare::layout::CLASSES;
+use compare::faults::{Fault, CLASSES_AS, DIGITS, FIELDS, NARROW_FIELDS, SINGLE, TABLES};
+use compare::generate::plain;
+use compare::layout::{CLASSES, LINES};
 use compare::program::{Second, SECOND, UNDER_TEST};
 use compare::{heading, Scope};
 
@@ -44,9 +45,56 @@ fn every_pair_of_classes_is_looked_at() {
     for left in CLASSES {
         for right in CLASSES {
             find(Fault::PairShifted(left, right), &[pairs::compare]);
+            find(Fault::PairShifted(left, right), &[gaps::compare]);
         }
-        println!("{SECOND} with the faults PairShifted({left}, each class): found by pairs");
+        println!("{SECOND} with the faults PairShifted({left}, each class): found by pairs, and by gaps");
     }
+}
+
+#[test]
+fn spaces_from_a_wrong_table() {
+    each_is_found(&TABLES, &[gaps::compare], 2);
+}
+
+/// Where there is a space, a cell of the table can take it from the wrong side, or name the wrong stage.
+#[test]
+fn every_cell_of_the_table_is_looked_at() {
+    let mut cells = 0;
+    for left in CLASSES {
+        for right in CLASSES.into_iter().filter(|&right| has_space(left, right)) {
+            cells += 1;
+            find(Fault::NextStage(left, right), &[gaps::compare]);
+            // Between middle dots both sides give the same part.
+            if (left, right) != (5, 5) {
+                find(Fault::OtherSide(left, right), &[gaps::compare]);
+            }
+        }
+    }
+    // Of rules a to d, f, g, h, i and j.
+    assert_eq!(cells, 35 + 13 + 28 + 12 + 6 + 7);
+    println!("{SECOND} with the faults NextStage and OtherSide in each of {cells} cells: found by gaps");
+}
+
+/// Whether records of these two classes stand apart.
+fn has_space(left: u32, right: u32) -> bool {
+    let records = [plain(left, 80), plain(right, 80)];
+    let slot = second::slot_words(7, 1_000, 0, &records.concat()).expect("a pair that fits");
+    slot[LINES + 1] > records[0][3] + records[1][3]
+}
+
+#[test]
+fn sums_in_fields_too_narrow() {
+    each_is_found(&NARROW_FIELDS, &[gaps::compare], 2);
+}
+
+/// The lines of these faults are otherwise set as they should be.
+#[test]
+fn sums_in_fields_wide_enough() {
+    let packed = Fault::Fields(FIELDS);
+    for comparison in ALL {
+        assert!(comparison(&packed, Scope::Brief).is_ok());
+    }
+    assert!(gaps::compare(&packed, Scope::Full).is_ok());
 }
 
 #[test]

@@ -4,6 +4,7 @@
 //! few are document 01's "Easy errors a bidder will make".
 
 mod edits;
+mod gaps;
 mod slots;
 
 use std::ops::Range;
@@ -111,9 +112,21 @@ pub enum Fault {
     ClassAs(u32, u32),
     /// The space between two classes of unlike size is one too wide.
     PairShifted(u32, u32),
+    /// The space between two classes is taken from the other side's size.
+    OtherSide(u32, u32),
+    /// The space between two classes shrinks in the next stage: in 1 and not in none, in 2 and not in 1, in none and
+    /// not in 2.
+    NextStage(u32, u32),
+    /// The table's columns are taken for its rows, while the sizes stay on their sides.
+    TableByColumns,
+    /// Where rules a and b add two spaces, only the left side's is set.
+    OneSpaceOfTwo,
+    /// A line's gaps are added up in one word, whose fields have so many bits: least widths, shrink stages 1 and 2,
+    /// weights. What a field cannot hold is carried into the next.
+    Fields([u32; 4]),
 }
 
-/// Every fault but those of digits and classes.
+/// Every fault but those of digits, classes and gaps.
 pub const SINGLE: [Fault; 40] = [
     Fault::NaturalBreaks,
     Fault::DamageBeforeCaller,
@@ -183,6 +196,21 @@ pub const CLASSES_AS: [Fault; 20] = [
     Fault::ClassAs(15, 11),
     Fault::ClassAs(16, 13),
     Fault::ClassAs(19, 14),
+];
+
+/// Spaces from a wrong table (document 02, request 02), beside those wrong in one of its cells.
+pub const TABLES: [Fault; 2] = [Fault::TableByColumns, Fault::OneSpaceOfTwo];
+
+/// Fields that hold the sums of any 255 gaps: then `Fault::Fields` is no fault.
+pub const FIELDS: [u32; 4] = [20, 18, 18, 8];
+
+/// In each of these one field is too narrow for what a line can add up to: 499,000 in least widths, 170,000 and
+/// 127,500 in shrink stages 1 and 2, 254 weights where it is stretched.
+pub const NARROW_FIELDS: [Fault; 4] = [
+    Fault::Fields([18, 18, 18, 8]),
+    Fault::Fields([20, 17, 18, 8]),
+    Fault::Fields([20, 18, 16, 8]),
+    Fault::Fields([20, 18, 18, 7]),
 ];
 
 impl Program for Fault {

@@ -1,5 +1,6 @@
 //! The words of a slot, and how a fault spoils them.
 
+use super::gaps::set_again;
 use super::Fault;
 use crate::calls::Words;
 use crate::layout::{LINES, PLACES, RECORDS, SLOT};
@@ -74,6 +75,11 @@ pub fn spoil_slot(fault: Fault, slot: &mut [u32], old: &[u32]) {
         Fault::LastRecord if records == 256 => slot[LINES - 2..LINES].fill(0),
         Fault::LastLine if lines == 256 => slot[SLOT - 3..].fill(0),
         Fault::PairShifted(left, right) => shift_pair(slot, left, right),
+        Fault::OtherSide(..)
+        | Fault::NextStage(..)
+        | Fault::TableByColumns
+        | Fault::OneSpaceOfTwo
+        | Fault::Fields(_) => set_again(fault, slot),
         _ => {}
     }
 }
