@@ -5,14 +5,16 @@ use native.Mathlib.Omega.{arith}
 use mathlib.Core.List.{List}
 use mathlib.Core.Logic.{inl, inr}
 use lib.ListN.{drop}
-use Rattle.rules.specs.Records.{recAt, records}
+use mathlib.Core.Bool.{true}
+use Rattle.rules.specs.Records.{recAt, records, recOk}
 use Rattle.rules.specs.Sides.{sideBy}
 use Rattle.rules.specs.Groups.{sameGroup, units, count, advances, baseTotal, advance}
 use Rattle.rules.specs.Breaks.{bound, smallest, width}
+use Rattle.rules.specs.Values.{SideOk}
 use Rattle.rules.proofs.Facts.{tested, ordered}
-use Rattle.rules.proofs.Limits.{RecordBounds, record-bounds, records-ok}
+use Rattle.rules.proofs.Limits.{RecordBounds, record-bounds, side-ok, records-ok}
 use Rattle.rules.proofs.GroupLimits.{headCount, units-few, advance-bound-of}
-use Rattle.rules.proofs.GroupLimits.{GapBounds, gap-bounds}
+use Rattle.rules.proofs.GapWords.{GapBounds, gap-bounds}
 use Rattle.rules.proofs.Words.{drop-records}
 use Rattle.compose.specs.Paragraph.{size, paragraph, from, unitAt, nextAt, gapAfter, runAt, Checked}
 use Rattle.compose.proofs.Walk.{records-from, unit-step, unit-last, unit-more}
@@ -22,10 +24,14 @@ module _ (ws : List ℕ) (k : Checked ws) where
   dropped : (i : ℕ) → i < size ws → drop i (paragraph ws) ≡ records ws i (size ws - i)
   dropped i h = let e : 0 + i ≡ i = omega arith in rw e at (drop-records ws 0 (size ws) i (omega arith))
 
+  record-ok : (i : ℕ) → i < size ws → recOk (recAt ws i) ≡ true
+  record-ok i h = records-ok 0 (paragraph ws) (k .sound) i (recAt ws i) _ (dropped i h ∙ records-from ws i h)
+
   pub record-limits : (i : ℕ) → i < size ws → RecordBounds (recAt ws i)
-  record-limits i h =
-      record-bounds (recAt ws i) (records-ok 0 (paragraph ws) (k .sound) i (recAt ws i) _
-      (dropped i h ∙ records-from ws i h))
+  record-limits i h = record-bounds (recAt ws i) (record-ok i h)
+
+  pub side-limits : (i : ℕ) → i < size ws → SideOk (sideBy (recAt ws i))
+  side-limits i h = side-ok (recAt ws i) (record-ok i h)
 
   pub unit-records : (i : ℕ) → i < size ws → count (unitAt ws i) ≤ 16
   unfolding from
@@ -61,10 +67,8 @@ module _ (ws : List ℕ) (k : Checked ws) where
       (rw (s .first) (b .size))
 
   pub gap-limits : (i : ℕ) → i < size ws → nextAt ws i < size ws → GapBounds (gapAfter ws i)
-  unfolding gapAfter sideBy
-  gap-limits i h g =
-      gap-bounds (sideBy (recAt ws i)) (sideBy (recAt ws (nextAt ws i))) (record-limits i h .size)
-      (record-limits (nextAt ws i) g .size)
+  unfolding gapAfter
+  gap-limits i h g = gap-bounds _ _ (side-limits i h) (side-limits (nextAt ws i) g)
 
   -- a run's smallest width, where at most n records are left from record i on
   width-from : (n i : ℕ) → i < size ws → size ws - i ≤ n → width (runAt ws i) ≤ 132000 * n
@@ -81,7 +85,7 @@ module _ (ws : List ℕ) (k : Checked ws) where
               | inl b ↦ omega (
                 arith,
                 width-from n (nextAt ws i) g (omega arith),
-                gap-limits i h g,
+                gap-limits i h g .at-most .space,
                 run-width ws i h g
                     b,
               )

@@ -10,30 +10,34 @@ use Rattle.rules.specs.Gaps.{Gap}
 use Rattle.rules.specs.Breaks.{gap}
 use Rattle.rules.specs.Adjustment.{Amounts, plus, nothing, totals, adjusted, placed, ending}
 use Rattle.rules.specs.Sheet.{placesOf}
-use Rattle.rules.proofs.GroupLimits.{GapBounds}
+use Rattle.rules.specs.Packed.{Packs, AtMost}
+use Rattle.rules.proofs.Packed.{plus-packs}
+use Rattle.rules.proofs.GapWords.{GapBounds}
 use Rattle.compose.specs.Paragraph.{size, unitAt, nextAt}
 use Rattle.compose.specs.Tables.{gapIn}
 use Rattle.compose.specs.Lines.{lineAt}
-use Rattle.compose.specs.Adjusted.{Within, PartOf, floors, spaceBetween, Between, unitPlaces, withUnit}
+use Rattle.compose.specs.Adjusted.{PartOf, floors, placeAfter, Movable, unitPlaces, withUnit}
 use Rattle.compose.specs.Adjusted.{UnitToPlace, linePlaces, lineEnd, LineToPlace, LinePlaced}
 use Rattle.compose.proofs.Stretches.{line-last}
 use Rattle.compose.proofs.Sums.{plus-assoc, nothing-plus, part-of, line-first, after-more}
-use Rattle.compose.proofs.Sums.{gap-row, gap-bounds, advance-limit}
-use Rattle.compose.proofs.Floors.{floor-within, no-floors, floors-none, floors-between, between-limit}
+use Rattle.compose.proofs.Sums.{gap-row, gap-bounds, at-most-more, at-most-255, advance-limit}
+use Rattle.compose.proofs.Floors.{place-first, place-next, floors-movable, place-limit}
 use Rattle.compose.proofs.Pastes.{Pasting, paste-start, paste-length, paste-more}
 use Rattle.rules.proofs.Lengths.{length-placesOf}
 use Rattle.compose.proofs.PlaceWords.{places-append, length-unit}
 
--- the units before record a are placed; the next starts at `at`, after gaps that add up to s, with floors f
-pub record LinePlacing (ws places₀ : List ℕ) (i j line x : ℕ) (e : Amounts) (c : Gap) (places : List ℕ) (a at : ℕ)
-    (s : Gap) (f : Amounts) : Type 0 where
+-- the units before record a are placed; the next starts at `at`, after gaps that add up to s. Where they stand solid
+-- the units end at `solid`
+pub record LinePlacing (ws places₀ : List ℕ) (i j line x : ℕ) (e : Amounts) (c : Gap) (places : List ℕ)
+    (a at solid : ℕ) (s : Gap) : Type 0 where
   pub low : i ≤ a
   pub within : a < j
   pub ends : a + counts (unitAt ws a ∷ lineAt ws a j .rest) ≡ j
   pub gaps : plus s (totals (unitAt ws a) (lineAt ws a j .rest)) ≡ c
-  pub floors-are : f ≡ floors e c s
-  pub limit : Within (4000 * a) s
-  pub start-limit : at ≤ 1000000 + 132000 * a + f .stretch₁ + f .stretch₂
+  pub packs : Packs s
+  pub limit : AtMost a s
+  pub start-is : at ≡ placeAfter solid (s .space) (floors e c s)
+  pub solid-limit : solid ≤ 1000000 + 128000 * a
   pub pasting :
       Pasting places₀ (2 * i) (linePlaces ws i j line x e c) (2 * (a - i))
       (placesOf line (placed e c s at (unitAt ws a) (lineAt ws a j .rest))) places
@@ -41,7 +45,7 @@ pub record LinePlacing (ws places₀ : List ℕ) (i j line x : ℕ) (e : Amounts
 
 module _ {ws us gs places₀ : List ℕ} {i j line x : ℕ} {e : Amounts} {c : Gap}
     (p : LineToPlace ws us gs places₀ i j x e c) where
-  pub line-start : LinePlacing ws places₀ i j line x e c places₀ i x nothing no-floors
+  pub line-start : LinePlacing ws places₀ i j line x e c places₀ i x x nothing
   line-start =
       let z : 2 * (i - i) ≡ 0 = omega arith in
       record {
@@ -49,41 +53,36 @@ module _ {ws us gs places₀ : List ℕ} {i j line x : ℕ} {e : Amounts} {c : G
         within = p .line .some;
         ends = rw line-first at (p .line .ends);
         gaps = nothing-plus _ ∙ sym (p .gaps ∙ rw line-first);
-        floors-are = sym (floors-none e c);
+        packs = record { gives = omega arith; twice = omega arith };
         limit = omega arith;
-        start-limit = omega (arith, p .start);
+        start-is = sym (place-first e c x);
+        solid-limit = omega (arith, p .start);
         pasting = rw (z, line-first) (paste-start places₀ (2 * i) _);
         end-x = rw line-first;
       }
 
-  module _ {places : List ℕ} {a at : ℕ} {s : Gap} {f : Amounts}
-      (q : LinePlacing ws places₀ i j line x e c places a at s f) where
+  module _ {places : List ℕ} {a at solid : ℕ} {s : Gap}
+      (q : LinePlacing ws places₀ i j line x e c places a at solid s) where
     inside : a < size ws
     inside = omega (arith, q .within, p .line .within)
 
     pub turn-length : length places ≡ length places₀
     turn-length = paste-length (q .pasting) (omega (arith, inside, p .room, q .low))
 
+    -- the gaps up to here can be shrunk and stretched by their floors
+    movable-here : Movable solid (s .space) (floors e c s)
+    movable-here =
+        let n : a < 256 = omega (arith, inside, p .tabled .checked .few) in
+        floors-movable e c (p .shrink₁) (p .shrink₂) s solid (q .packs) (part-of s _ c (q .gaps)) (p .stretch₁)
+        (p .stretch₂) (omega (arith, q .solid-limit)) (omega (arith, q .limit .space))
+
     pub turn-unit : UnitToPlace ws us places a at
     turn-unit =
-        let some = part-of s _ c (q .gaps) in
         record {
           checked = p .tabled .checked;
           units = p .tabled .units;
           unit = inside;
-          start =
-              omega (
-                arith,
-                q .start-limit,
-                inside,
-                p .tabled .checked .few,
-                ap (λ t. t .stretch₁) (q .floors-are),
-                ap (λ t. t .stretch₂) (q .floors-are),
-                floor-within (e .stretch₁) (s .stretch₁) (c .stretch₁) (some .stretch₁),
-                floor-within (e .stretch₂) (s .stretch₂) (c .stretch₂) (some .stretch₂),
-                p .stretch₁,
-                p .stretch₂,
-              );
+          start = rw (q .start-is) (place-limit movable-here);
           room = omega (arith, p .room, turn-length);
         }
 
@@ -117,16 +116,16 @@ module _ {ws us gs places₀ : List ℕ} {i j line x : ℕ} {e : Amounts} {c : G
             end-x = rw (d, p .tabled .units a inside .advance) (rw z at (q .end-x));
           }
 
-      -- or another unit follows, after a gap g
-      module _ (h : n < j) {g t : Gap} (r : g ≡ gapIn gs a) (b : t ≡ plus s g) where
+      -- or another unit follows, after the gap of row a
+      module _ (h : n < j) {t : Gap} (b : t ≡ plus s (gapIn gs a)) where
         next-inside : nextAt ws a < size ws
         next-inside = omega (arith, p .line .within, next-is)
 
-        gap-here : g ≡ gap (unitAt ws a) (unitAt ws (nextAt ws a))
-        gap-here = r ∙ gap-row (p .tabled) a inside next-inside
+        gap-here : gapIn gs a ≡ gap (unitAt ws a) (unitAt ws (nextAt ws a))
+        gap-here = gap-row (p .tabled) a inside next-inside
 
-        bounds-here : GapBounds g
-        bounds-here = rw r (gap-bounds (p .tabled) a inside next-inside)
+        bounds-here : GapBounds (gapIn gs a)
+        bounds-here = gap-bounds (p .tabled) a inside next-inside
 
         rest-here : lineAt ws a j .rest ≡ unitAt ws (nextAt ws a) ∷ lineAt ws (nextAt ws a) j .rest
         rest-here = after-more ws a j (omega (arith, next-is)) (p .line .within)
@@ -135,39 +134,50 @@ module _ {ws us gs places₀ : List ℕ} {i j line x : ℕ} {e : Amounts} {c : G
         unfolding totals
         gaps-here =
             let u = totals (unitAt ws (nextAt ws a)) (lineAt ws (nextAt ws a) j .rest) in
-            ap (λ v. plus v u) b ∙ plus-assoc s g u
+            ap (λ v. plus v u) b ∙ plus-assoc s (gapIn gs a) u
             ∙ ap (λ v. plus s (plus v u)) gap-here ∙ (rw rest-here at (q .gaps))
 
-        pub turn-sums : Within 1024000 s × Within 4000 g
-        turn-sums =
-            let y = bounds-here in
-            let z = q .limit in
-            let w = inside in
-            (omega (arith, p .tabled .checked .few), omega arith)
+        packs-here : Packs t
+        packs-here = rw b (plus-packs s (gapIn gs a) (q .packs) (bounds-here .packs))
+
+        limit-here : AtMost n t
+        limit-here = rw b (at-most-more (q .limit) (bounds-here .at-most) turn-longer)
+
+        pub turn-sums : AtMost 255 (plus s (gapIn gs a))
+        turn-sums = rw b at (at-most-255 limit-here (omega (arith, next-inside, next-is, p .tabled .checked .few)))
 
         pub turn-part : PartOf t c
         turn-part = part-of t _ c gaps-here
 
-        module _ {w : Amounts} (o : w ≡ floors e c t) where
-          pub turn-between : Between (g .space) f w
-          turn-between =
-              rw (o, b, q .floors-are)
-              (floors-between e c s g (p .shrink₁) (p .shrink₂) (p .stretch₁) (p .stretch₂) (rw b at turn-part)
-              bounds-here)
+        module _ {d : ℕ} (y : d ≡ getD us (3 * a + 2) 0) where
+          solid-here : solid + d ≤ 1000000 + 128000 * n
+          solid-here = omega (arith, q .solid-limit, advance-limit (p .tabled) a inside, turn-longer)
 
-          pub line-more : {after : List ℕ} {d k : ℕ} →
-              after ≡ withUnit ws places a line at → d ≡ getD us (3 * a + 2) 0 →
-              k ≡ spaceBetween (g .space) f w → LinePlacing ws places₀ i j line x e c after n (at + d + k) t w
+          pub turn-movable : Movable (solid + d) (t .space) (floors e c t)
+          turn-movable =
+              let m : n < 256 = omega (arith, next-inside, next-is, p .tabled .checked .few) in
+              floors-movable e c (p .shrink₁) (p .shrink₂) t (solid + d) packs-here turn-part (p .stretch₁)
+              (p .stretch₂) (omega (arith, solid-here)) (omega (arith, limit-here .space))
+
+          pub line-more : {places₁ : List ℕ} {k : ℕ} → places₁ ≡ withUnit ws places a line at →
+              k ≡ placeAfter (solid + d) (t .space) (floors e c t) →
+              LinePlacing ws places₀ i j line x e c places₁ n k (solid + d) t
           unfolding placed ending counts
-          line-more {after} {d} {k} m y z =
+          line-more {places₁} {k} m z =
               let u = unitAt ws a in
               let v = unitAt ws (nextAt ws a) in
               let vs = lineAt ws (nextAt ws a) j .rest in
               let x₁ = at + advance u + adjusted e c s (gap u v) in
               let sums : plus s (gap u v) ≡ t = sym (b ∙ ap (plus s) gap-here) in
-              let moved : x₁ ≡ at + d + k =
-              ap (λ h. at + advance u + adjusted e c s h) (sym gap-here)
-              ∙ sym (rw (z, y, p .tabled .units a inside .advance, q .floors-are, o, b)) in
+              let wide : advance u ≡ d = sym (y ∙ p .tabled .units a inside .advance) in
+              let before : x₁ ≡ placeAfter solid (s .space) (floors e c s) + d + adjusted e c s (gapIn gs a) =
+              λ t. q .start-is t + wide t + adjusted e c s (sym gap-here t) in
+              let after : placeAfter (solid + d) (plus s (gapIn gs a) .space) (floors e c (plus s (gapIn gs a))) ≡ k =
+              ap (λ v. placeAfter (solid + d) (v .space) (floors e c v)) (sym b) ∙ sym z in
+              let moved : x₁ ≡ k =
+              before
+              ∙ place-next e c (p .shrink₁) (p .shrink₂) s (gapIn gs a) solid d (q .packs) (bounds-here .packs)
+              ∙ after in
               let onward : ending e c (plus s (gap u v)) x₁ v vs ≡ lineEnd ws i j x e c =
               rw rest-here at (q .end-x) in
               record {
@@ -175,20 +185,13 @@ module _ {ws us gs places₀ : List ℕ} {i j line x : ℕ} {e : Amounts} {c : G
                 within = h;
                 ends = rw next-is (add-assoc a (count u) (counts (v ∷ vs)) ∙ (rw rest-here at (q .ends)));
                 gaps = rw next-is gaps-here;
-                floors-are = o;
-                limit = rw (b, next-is) (let l = q .limit in let y = bounds-here in omega arith);
-                start-limit =
-                    omega (
-                      arith,
-                      q .start-limit,
-                      next-is,
-                      advance-limit (p .tabled) a inside,
-                      between-limit (g .space) f w turn-between,
-                      bounds-here .space,
-                    );
+                packs = packs-here;
+                limit = limit-here;
+                start-is = z;
+                solid-limit = solid-here;
                 pasting =
                     rw next-is
-                    (unit-pasted after (placesOf line (placed e c t (at + d + k) v vs)) (nextAt ws a) m refl
+                    (unit-pasted places₁ (placesOf line (placed e c t k v vs)) (nextAt ws a) m refl
                     (rw (rest-here, places-append, sums, moved)));
                 end-x = rw next-is (rw (sums, moved) at onward);
               }

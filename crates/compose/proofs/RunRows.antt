@@ -51,7 +51,7 @@ gap-limit ws k (suc n) i h e f =
             | inl b ↦
                 let q : runEnd ws (nextAt ws i) < size ws = omega (arith, run-records ws i h g b) in
                 rw (gap-bound ws i h g b) (gap-limit ws k n (nextAt ws i) g (omega arith) q)
-            | inr b ↦ rw (gap-free ws i h g b) (omega (arith, gap-limits ws k i h g .space))
+            | inr b ↦ rw (gap-free ws i h g b) (omega (arith, gap-limits ws k i h g .at-most .space))
           ]
     ]
 

@@ -14,13 +14,14 @@ use Rattle.rules.specs.Sides.{forbidden}
 use Rattle.rules.specs.Gaps.{Gap, gapOf, least}
 use Rattle.rules.specs.Breaks.{gap, bound, smallest, width}
 use Rattle.rules.specs.Meanings.{lastIn}
-use Rattle.rules.proofs.GroupLimits.{GapBounds}
+use Rattle.rules.specs.Values.{SideOk}
+use Rattle.rules.proofs.GapWords.{GapBounds}
 use Rattle.compose.specs.Paragraph.{size, unitAt, nextAt, gapAfter, runAt, runEnd}
 use Rattle.compose.specs.Tables.{RunRowOf, RunRow, RunsFrom, RunsAfter}
 use Rattle.compose.proofs.Walk.{unit-step}
 use Rattle.compose.proofs.RunWalk.{run-step, run-last, run-more}
 use Rattle.compose.proofs.RunWalk.{run-width, run-records, run-lastIn, gap-is, bound-is}
-use Rattle.compose.proofs.Limits.{gap-limits, run-limit}
+use Rattle.compose.proofs.Limits.{side-limits, gap-limits, run-limit}
 use Rattle.compose.proofs.UnitScan.{UnitWords, unit-words}
 use Rattle.compose.proofs.Stored.{row-stored, row-kept, one-more}
 
@@ -31,6 +32,9 @@ after us i = i + getD us (3 * i) 0
 module _ {ws us t : List ℕ} {i : ℕ} (p : RunsAfter ws us t i) where
   pub unit : UnitWords ws us i
   unit = unit-words (p .checked) (p .units) i (p .inside)
+
+  pub side-before : SideOk (sideBy (recAt ws i))
+  side-before = side-limits ws (p .checked) i (p .inside)
 
   -- a run of one unit
   alone-row : (g : ℕ) → runAt ws i ≡ alone (unitAt ws i) →
@@ -57,6 +61,9 @@ module _ {ws us t : List ℕ} {i : ℕ} (p : RunsAfter ws us t i) where
   module _ (h : after us i < size ws) where
     more : nextAt ws i < size ws
     more = rw (← unit .next) h
+
+    pub side-after : SideOk (sideBy (recAt ws (after us i)))
+    side-after = side-limits ws (p .checked) (after us i) h
 
     later : RunRow ws t (after us i)
     later = let w = unit in p .after (after us i) (omega arith) h

@@ -1,14 +1,14 @@
 -- A table after one of its rows is stored: what the row holds then, and that the other rows stay. Assumes nothing.
-use mathlib.Core.Path.{_≡_, refl, _∙_}
+use mathlib.Core.Path.{_≡_, refl, ap, _∙_}
 use Prim.Native.Nat.{ℕ, zero, suc, _+_, _*_, _≤_, _<_}
 use native.Mathlib.Omega.{arith}
 use mathlib.Core.List.{List, [], _∷_}
 use mathlib.Core.Logic.{_⊎_, inl, inr}
 use lib.ListN.{length, getD, set, length-set}
 use lib.Seq.{sets, getD-set-same, getD-set-other}
-use Rattle.rules.specs.Gaps.{Gap}
+use Rattle.rules.specs.Packed.{unpacked}
 use Rattle.rules.proofs.Facts.{ordered}
-use Rattle.compose.specs.Tables.{gapIn, gapWords}
+use Rattle.compose.specs.Tables.{gapIn}
 
 -- the words outside of those that are stored
 kept : (vs t : List ℕ) (a j : ℕ) → (j < a) ⊎ (a + length vs ≤ j) → getD (sets t a vs) j 0 ≡ getD t j 0
@@ -54,33 +54,13 @@ module _ (t : List ℕ) (i x y z : ℕ) where
         third = kept vs t (3 * i) (3 * k + 2) (inr (omega arith));
       }
 
--- rows of five words, which hold a gap
-module _ (t : List ℕ) (i : ℕ) (g : Gap) where
-  pub gap-stored : 5 * i + 5 ≤ length t → gapIn (sets t (5 * i) (gapWords g)) i ≡ g
-  gap-stored h =
-      let word : (k j : ℕ) → j ≡ 5 * i + k → k < 5 → getD (sets t (5 * i) (gapWords g)) j 0 ≡ getD (gapWords g) k 0 =
-      λ k j e l. stored (gapWords g) t (5 * i) k j e l (omega arith) in
-      λ p.
-      record {
-        space = word 0 (5 * i) (omega arith) (omega arith) p;
-        shrink₁ = word 1 (5 * i + 1) refl (omega arith) p;
-        shrink₂ = word 2 (5 * i + 2) refl (omega arith) p;
-        stretch₁ = word 3 (5 * i + 3) refl (omega arith) p;
-        stretch₂ = word 4 (5 * i + 4) refl (omega arith) p;
-      }
+-- rows of one word, which hold a gap
+module _ (t : List ℕ) (i w : ℕ) where
+  pub gap-stored : i < length t → gapIn (set t i w) i ≡ unpacked w
+  gap-stored h = ap unpacked (getD-set-same t i w 0 h)
 
-  pub gap-kept : (k : ℕ) → i < k → gapIn (sets t (5 * i) (gapWords g)) k ≡ gapIn t k
-  gap-kept k h =
-      let word : (j : ℕ) → 5 * i + 5 ≤ j → getD (sets t (5 * i) (gapWords g)) j 0 ≡ getD t j 0 =
-      λ j l. kept (gapWords g) t (5 * i) j (inr l) in
-      λ p.
-      record {
-        space = word (5 * k) (omega arith) p;
-        shrink₁ = word (5 * k + 1) (omega arith) p;
-        shrink₂ = word (5 * k + 2) (omega arith) p;
-        stretch₁ = word (5 * k + 3) (omega arith) p;
-        stretch₂ = word (5 * k + 4) (omega arith) p;
-      }
+  pub gap-kept : (k : ℕ) → i < k → gapIn (set t i w) k ≡ gapIn t k
+  gap-kept k h = ap unpacked (getD-set-other t i k w 0 (λ e. omega arith))
 
 -- a table that is filled from its end: with row i the rows from row i on hold what they are to hold
 pub one-more : {P : ℕ → Type 0} (n i : ℕ) → P i → ((k : ℕ) → i + 1 ≤ k → k < n → P k) →

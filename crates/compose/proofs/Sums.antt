@@ -11,11 +11,12 @@ use Rattle.rules.specs.Gaps.{Gap}
 use Rattle.rules.specs.Breaks.{gap}
 use Rattle.rules.specs.Adjustment.{plus, nothing, totals, gapsOf, unitAdvances}
 use Rattle.rules.specs.Values.{gapFrom}
-use Rattle.rules.proofs.GroupLimits.{GapBounds}
+use Rattle.rules.specs.Packed.{unpacked, AtMost}
+use Rattle.rules.proofs.GapWords.{GapBounds}
 use Rattle.compose.specs.Paragraph.{size, unitAt, nextAt}
 use Rattle.compose.specs.Tables.{gapIn}
 use Rattle.compose.specs.Lines.{lineAt, Tabled}
-use Rattle.compose.specs.Adjusted.{LineToSum, SumsOf, Within, PartOf}
+use Rattle.compose.specs.Adjusted.{LineToSum, SumsOf, PartOf}
 use Rattle.compose.specs.declared.adjustment.Sums.{Sums}
 use Rattle.compose.proofs.RunWalk.{gap-is}
 use Rattle.compose.proofs.Limits.{unit-advance, gap-limits}
@@ -42,6 +43,25 @@ part-of s t c e =
       stretch₂ = omega (arith, ap (λ g. g .stretch₂) e);
     }
 
+-- with one gap more
+pub at-most-more : {n m : ℕ} {s g : Gap} → AtMost n s → AtMost 1 g → n < m → AtMost m (plus s g)
+at-most-more a b h =
+    record {
+      space = omega (arith, a .space, b .space);
+      shrink₁ = omega (arith, a .shrink₁, b .shrink₁);
+      shrink₂ = omega (arith, a .shrink₂, b .shrink₂);
+      stretch₂ = omega (arith, a .stretch₂, b .stretch₂);
+    }
+
+pub at-most-255 : {n : ℕ} {g : Gap} → AtMost n g → n ≤ 255 → AtMost 255 g
+at-most-255 a h =
+    record {
+      space = omega (arith, a .space);
+      shrink₁ = omega (arith, a .shrink₁);
+      shrink₂ = omega (arith, a .shrink₂);
+      stretch₂ = omega (arith, a .stretch₂);
+    }
+
 -- a line's units -------------------------------------------------------------------------------------------------
 
 pub line-first : (ws : List ℕ) (a j : ℕ) → lineAt ws a j .first ≡ unitAt ws a
@@ -65,85 +85,115 @@ module _ {ws us gs : List ℕ} (t : Tabled ws us gs) (a : ℕ) (h : a < size ws)
 
 -- the sums -------------------------------------------------------------------------------------------------------
 
--- the sums up to the unit at record a; `next` is the record after that unit
-pub record Summing (ws : List ℕ) (i j advances : ℕ) (total : Gap) (a next : ℕ) : Type 0 where
-  pub next-is : next ≡ nextAt ws a
-  pub within : a < j
-  pub all-advances : advances + unitAdvances (lineAt ws a j .rest) ≡ unitAdvances (whole (lineAt ws i j))
-  pub all-gaps : plus total (totals (unitAt ws a) (lineAt ws a j .rest)) ≡ gapsOf (lineAt ws i j)
-  pub advances-limit : advances ≤ 128000 * (a + 1)
-  pub limit : Within (4000 * a) total
+-- the sums up to the unit at record `last`, of which `next` is the record after it; the search is at record k
+pub record Summing (ws : List ℕ) (i j advances total last next k : ℕ) : Type 0 where
+  pub next-is : next ≡ nextAt ws last
+  pub within : last < j
+  pub past : last < k
+  pub before : k ≤ next
+  pub all-advances : advances + unitAdvances (lineAt ws last j .rest) ≡ unitAdvances (whole (lineAt ws i j))
+  pub all-gaps : plus (unpacked total) (totals (unitAt ws last) (lineAt ws last j .rest)) ≡ gapsOf (lineAt ws i j)
+  pub advances-limit : advances ≤ 128000 * (last + 1)
+  pub limit : AtMost last (unpacked total)
+
+-- no gap yet
+pub nothing-yet : unpacked 0 ≡ nothing
+unfolding unpacked
+nothing-yet = refl
 
 module _ {ws us gs : List ℕ} {i j : ℕ} (p : LineToSum ws us gs i j) where
   tabled : Tabled ws us gs
   tabled = p .tabled
 
-  pub sum-start : Summing ws i j (getD us (3 * i + 2) 0) nothing i (i + getD us (3 * i) 0)
+  pub sum-start : {k : ℕ} → k ≡ i + 1 → Summing ws i j (getD us (3 * i + 2) 0) 0 i (i + getD us (3 * i) 0) k
   unfolding unitAdvances
-  sum-start =
+  sum-start e =
       let h : i < size ws = omega (arith, p .some, p .within) in
       let u = tabled .units i h in
       record {
         next-is = rw (u .records);
         within = p .some;
+        past = omega arith;
+        before = omega (arith, u .records);
         all-advances = rw (u .advance, line-first);
-        all-gaps = rw line-first (nothing-plus _);
+        all-gaps = rw (nothing-yet, line-first) (nothing-plus _);
         advances-limit = omega (arith, advance-limit tabled i h);
-        limit = omega arith;
+        limit = rw nothing-yet (omega arith);
       }
 
-  module _ {advances : ℕ} {total : Gap} {a next : ℕ} (s : Summing ws i j advances total a next) where
-    pub sum-last : {r : Sums} → r .advances ≡ advances → gapFrom (r .gaps) ≡ total → j ≤ next →
+  module _ {advances total last next k : ℕ} (s : Summing ws i j advances total last next k) where
+    pub sum-last : {r : Sums} → r .advances ≡ advances → gapFrom (r .gaps) ≡ unpacked total → j ≤ k →
         SumsOf (lineAt ws i j) r
     unfolding unitAdvances totals
     sum-last e f h =
-        let l : lineAt ws a j .rest ≡ [] = line-last ws a j (omega (arith, s .next-is)) in
-        let n : a < 256 = omega (arith, s .within, p .within, tabled .checked .few) in
+        let l : lineAt ws last j .rest ≡ [] = line-last ws last j (omega (arith, s .next-is, s .before)) in
+        let n : last < 256 = omega (arith, s .within, p .within, tabled .checked .few) in
         record {
           advances = e ∙ (rw (l, add-zero) at (s .all-advances));
-          gaps = f ∙ sym (plus-nothing total) ∙ (rw l at (s .all-gaps));
+          gaps = f ∙ sym (plus-nothing (unpacked total)) ∙ (rw l at (s .all-gaps));
           advances-limit = omega (arith, s .advances-limit);
           space-limit = omega (arith, ap (λ g. g .space) f, s .limit .space);
         }
 
-    module _ (h : next < j) where
-      inside : a < size ws
+    -- the record is inside of the unit
+    pub sum-inside : k < j → (k ≡ next → ⊥) → Summing ws i j advances total last next (k + 1)
+    sum-inside h n =
+        record {
+          next-is = s .next-is;
+          within = s .within;
+          past = omega (arith, s .past);
+          before = omega (arith, s .before, n);
+          all-advances = s .all-advances;
+          all-gaps = s .all-gaps;
+          advances-limit = s .advances-limit;
+          limit = s .limit;
+        }
+
+    -- or starts the next one
+    module _ (h : k < j) (m : k ≡ next) where
+      inside : last < size ws
       inside = omega (arith, s .within, p .within)
 
       next-inside : next < size ws
       next-inside = omega (arith, p .within)
 
-      gap-limits-here : GapBounds (gapIn gs a)
-      gap-limits-here = gap-bounds tabled a inside (rw (s .next-is) at next-inside)
+      gap-limits-here : GapBounds (gapIn gs last)
+      gap-limits-here = gap-bounds tabled last inside (rw (s .next-is) at next-inside)
 
-      pub sum-limits : Within 1024000 total × Within 4000 (gapIn gs a)
-      sum-limits =
-          let b = gap-limits-here in
-          let l = s .limit in
-          let n = inside in
-          (omega (arith, tabled .checked .few), omega arith)
+      sum-limit : AtMost next (plus (unpacked total) (gapIn gs last))
+      sum-limit = at-most-more (s .limit) (gap-limits-here .at-most) (omega (arith, s .past))
 
-      pub sum-fits : advances + getD us (3 * next + 2) 0 ≤ 128000 * (next + 1)
-      sum-fits = omega (arith, advance-limit tabled next next-inside, s .advances-limit, s .next-is)
+      pub sum-limits : AtMost 255 (plus (unpacked total) (gapIn gs last))
+      sum-limits = at-most-255 sum-limit (omega (arith, next-inside, tabled .checked .few))
 
-      pub sum-more : {g t : Gap} {d n : ℕ} → g ≡ gapIn gs a → t ≡ plus total g → d ≡ getD us (3 * next + 2) 0 →
-          n ≡ next + getD us (3 * next) 0 → Summing ws i j (advances + d) t next n
+      pub sum-fits : advances + getD us (3 * k + 2) 0 ≤ 128000 * (k + 1)
+      sum-fits =
+          omega (arith, rw (← m) at (advance-limit tabled next next-inside), s .advances-limit, s .past)
+
+      pub sum-more : {t d n o : ℕ} → unpacked t ≡ plus (unpacked total) (gapIn gs last) →
+          d ≡ getD us (3 * k + 2) 0 → n ≡ k + getD us (3 * k) 0 → o ≡ k + 1 →
+          Summing ws i j (advances + d) t k n o
       unfolding unitAdvances totals
-      sum-more {g} {t} b f d n =
-          let u = tabled .units next next-inside in
-          let v = unitAt ws next in
-          let vs = lineAt ws next j .rest in
-          let n₁ = s .next-is in
-          let r : lineAt ws a j .rest ≡ v ∷ vs = rw n₁ (after-more ws a j (omega arith) (p .within)) in
-          let e : g ≡ gap (unitAt ws a) v = b ∙ rw n₁ (gap-row tabled a inside (rw n₁ at next-inside)) in
+      sum-more {t} {d} {n} {o} f q r z =
+          let here : k < size ws = omega (arith, next-inside) in
+          let u = tabled .units k here in
+          let v = unitAt ws k in
+          let vs = lineAt ws k j .rest in
+          let n₁ : k ≡ nextAt ws last = m ∙ s .next-is in
+          let g = gapIn gs last in
+          let w : lineAt ws last j .rest ≡ v ∷ vs = rw n₁ (after-more ws last j (omega arith) (p .within)) in
+          let e : g ≡ gap (unitAt ws last) v =
+          rw n₁ (gap-row tabled last inside (rw (s .next-is) at next-inside)) in
           record {
-            next-is = n ∙ rw (u .records);
+            next-is = r ∙ rw (u .records);
             within = h;
-            all-advances = rw (d, u .advance, add-assoc) (rw r at (s .all-advances));
+            past = omega arith;
+            before = omega (arith, u .records);
+            all-advances = rw (q, u .advance, add-assoc) (rw w at (s .all-advances));
             all-gaps =
-                ap (λ k. plus k (totals v vs)) f ∙ plus-assoc total g (totals v vs)
-                ∙ ap (λ k. plus total (plus k (totals v vs))) e
-                ∙ (rw r at (s .all-gaps));
-            advances-limit = rw d sum-fits;
-            limit = rw (f, b) (let l = s .limit in let k = gap-limits-here in omega (arith, s .next-is));
+                ap (λ x. plus x (totals v vs)) f ∙ plus-assoc (unpacked total) g (totals v vs)
+                ∙ ap (λ x. plus (unpacked total) (plus x (totals v vs))) e
+                ∙ (rw w at (s .all-gaps));
+            advances-limit = rw q sum-fits;
+            limit = rw (f, m) sum-limit;
           }

@@ -41,14 +41,6 @@ pub record SumsOf (l : Run TextUnit) (r : Sums) : Type 0 where
   pub advances-limit : r .advances ≤ 32768000
   pub space-limit : r .gaps .space ≤ 1024000
 
--- no number of a gap is over n
-pub record Within (n : ℕ) (g : Gap) : Type 0 where
-  pub space : g .space ≤ n
-  pub shrink₁ : g .shrink₁ ≤ n
-  pub shrink₂ : g .shrink₂ ≤ n
-  pub stretch₁ : g .stretch₁ ≤ n
-  pub stretch₂ : g .stretch₂ ≤ n
-
 -- gaps that add up to s are among those that add up to c
 pub record PartOf (s c : Gap) : Type 0 where
   pub shrink₁ : s .shrink₁ ≤ c .shrink₁
@@ -66,22 +58,18 @@ floors e c s =
       stretch₂ = e .stretch₂ * s .stretch₂ / c .stretch₂;
     }
 
--- a gap's space once adjusted, by the floors before it, f, and after it, t
-abbrev pub spaceBetween : ℕ → Amounts → Amounts → ℕ
-spaceBetween space f t =
-    (space - (t .shrink₁ - f .shrink₁) - (t .shrink₂ - f .shrink₂)) + (t .stretch₁ - f .stretch₁)
-    + (t .stretch₂ - f .stretch₂)
+-- where the unit after some gaps starts: after advances that end at `solid` where they stand solid, the gaps' spaces,
+-- and the floors up to them
+abbrev pub placeAfter : ℕ → ℕ → Amounts → ℕ
+placeAfter solid space f = solid + (space - f .shrink₁ - f .shrink₂) + f .stretch₁ + f .stretch₂
 
--- floors do not fall, no gap gives more than it has, and nothing is widened by more than a measure
-pub record Between (space : ℕ) (f t : Amounts) : Type 0 where
-  pub space-limit : space ≤ 4000
-  pub shrink₁ : f .shrink₁ ≤ t .shrink₁
-  pub shrink₂ : f .shrink₂ ≤ t .shrink₂
-  pub stretch₁ : f .stretch₁ ≤ t .stretch₁
-  pub stretch₂ : f .stretch₂ ≤ t .stretch₂
-  pub gives : (t .shrink₁ - f .shrink₁) + (t .shrink₂ - f .shrink₂) ≤ space
-  pub limit₁ : t .stretch₁ ≤ 1000000
-  pub limit₂ : t .stretch₂ ≤ 1000000
+-- the gaps give no more than they have, and nothing is widened by more than a measure
+pub record Movable (solid space : ℕ) (f : Amounts) : Type 0 where
+  pub solid-limit : solid ≤ 40000000
+  pub space-limit : space ≤ 1024000
+  pub gives : f .shrink₁ + f .shrink₂ ≤ space
+  pub limit₁ : f .stretch₁ ≤ 1000000
+  pub limit₂ : f .stretch₂ ≤ 1000000
 
 -- the places of the records of the unit that starts with record a, where it stands at x on a line
 abbrev pub unitPlaces : List ℕ → ℕ → ℕ → ℕ → List ℕ

@@ -1,20 +1,20 @@
 -- The tables that the composer fills, one row for each record of a paragraph.
 --
 --   unit table   the records, the base total and the advance of the unit that starts there
---   gap table    the gap after that unit, where another follows: its space and its four capacities
+--   gap table    the gap after that unit, where another follows, in one word
 --   run table    smallest width and records of the run that starts there, and the least of the gap after it
 --
 -- Assumes nothing.
 use mathlib.Core.Path.{_≡_}
 use Prim.Native.Nat.{ℕ, _+_, _*_, _≤_, _<_}
-use mathlib.Core.List.{List, [], _∷_}
+use mathlib.Core.List.{List}
 use lib.ListN.{getD}
 use Rattle.rules.specs.Basics.{whole}
 use Rattle.rules.specs.Groups.{count, counts, baseTotal, advance}
 use Rattle.rules.specs.Gaps.{Gap, least}
 use Rattle.rules.specs.Breaks.{gap as gapOf, width as widthOf}
 use Rattle.rules.specs.Meanings.{lastIn}
-use Rattle.rules.specs.Values.{gapFrom}
+use Rattle.rules.specs.Packed.{unpacked}
 use Rattle.compose.specs.Paragraph.{size, unitAt, nextAt, gapAfter, runAt, runEnd, Checked}
 use Rattle.compose.specs.declared.tables.Row.{Row}
 
@@ -26,23 +26,9 @@ pub record UnitRow (ws t : List ℕ) (i : ℕ) : Type 0 where
 abbrev pub UnitTable : List ℕ → List ℕ → Type 0
 UnitTable ws t = (i : ℕ) → i < size ws → UnitRow ws t i
 
--- the gap that five words hold, and the words of a gap
+-- the gap that a row holds
 abbrev pub gapIn : List ℕ → ℕ → Gap
-gapIn t i =
-    record {
-      space = getD t (5 * i) 0;
-      shrink₁ = getD t (5 * i + 1) 0;
-      shrink₂ = getD t (5 * i + 2) 0;
-      stretch₁ = getD t (5 * i + 3) 0;
-      stretch₂ = getD t (5 * i + 4) 0;
-    }
-
-abbrev pub gapWords : Gap → List ℕ
-gapWords g = g .space ∷ g .shrink₁ ∷ g .shrink₂ ∷ g .stretch₁ ∷ g .stretch₂ ∷ []
-
--- a gap gives no more than it has
-abbrev pub Gives : Gap → Type 0
-Gives g = g .shrink₁ + g .shrink₂ ≤ g .space
+gapIn t i = unpacked (getD t i 0)
 
 abbrev pub GapTable : List ℕ → List ℕ → Type 0
 GapTable ws t = (i : ℕ) → i < size ws → nextAt ws i < size ws → gapIn t i ≡ gapAfter ws i
@@ -69,7 +55,7 @@ pub record RunsAfter (ws us t : List ℕ) (i : ℕ) : Type 0 where
 
 -- what the two tables are to have for record i
 pub record RowOf (ws : List ℕ) (i : ℕ) (row : Row) : Type 0 where
-  pub gap : nextAt ws i < size ws → gapFrom (row .gap) ≡ gapAfter ws i
+  pub gap : nextAt ws i < size ws → unpacked (row .gap) ≡ gapAfter ws i
   pub run : RunRowOf ws i (row .width) (row .records) (row .least)
 
 abbrev pub RunTable : List ℕ → List ℕ → Type 0

@@ -3,14 +3,15 @@ ghost use mathlib.Core.Path.{_≡_};
 ghost use mathlib.Core.Bool.{cond};
 ghost use Prim.Native.Nat.{_+_, _*_, _-_, _/_, _^_, _≤_, _<_, min};
 ghost use lib.ListN.{getD};
-ghost use Rattle.rules.specs.Adjustment.{amounts, kindOf, plus, nothing};
+ghost use Rattle.rules.specs.Adjustment.{amounts, kindOf};
 ghost use Rattle.rules.specs.Values.{gapFrom};
-ghost use Rattle.compose.specs.Tables.{gapIn};
 ghost use Rattle.compose.specs.Lines.{lineAt};
-ghost use Rattle.compose.specs.Adjusted.{amountsFrom, LineToSum, SumsOf, Within, PartOf, floors};
-ghost use Rattle.compose.specs.Adjusted.{spaceBetween, Between};
+ghost use Rattle.compose.specs.Adjusted.{amountsFrom, LineToSum, SumsOf, PartOf, floors};
+ghost use Rattle.compose.specs.Adjusted.{placeAfter, Movable};
 use rules::Gap;
+use rules::added;
 use rules::over;
+use rules::unpack;
 
 // What a line's units and gaps add up to.
 pub(crate) struct Sums {
@@ -49,52 +50,18 @@ pub(crate) fn unit_advance(units: &[u32; 768], a: usize) -> u32
 }
 
 // Row `a` of the gap table.
-pub(crate) fn gap_at(gaps: &[u32; 1280], a: usize) -> Gap
+pub(crate) fn gap_at(gaps: &[u64; 256], a: usize) -> u64
     requires { ⌜ a < 256 ⌝ }
-    ensures { λ g. ⌜ gapFrom g ≡ gapIn (now (gaps .entry)) a ⌝ }
+    ensures { λ w. ⌜ w ≡ getD (now (gaps .entry)) a 0 ⌝ }
 {
-    let b = 5 * a;
-    Gap {
-        space: gaps[b],
-        shrink1: gaps[b + 1],
-        shrink2: gaps[b + 2],
-        stretch1: gaps[b + 3],
-        stretch2: gaps[b + 4],
-    }
-}
-
-pub(crate) fn no_gaps() -> Gap
-    ensures { λ g. ⌜ gapFrom g ≡ nothing ⌝ }
-{
-    Gap {
-        space: 0,
-        shrink1: 0,
-        shrink2: 0,
-        stretch1: 0,
-        stretch2: 0,
-    }
-}
-
-// Sums with one gap more.
-pub(crate) fn added(s: Gap, g: Gap) -> Gap
-    requires { ⌜ Within 1024000 (gapFrom s) ⌝ }
-    requires { ⌜ Within 4000 (gapFrom g) ⌝ }
-    ensures { λ r. ⌜ gapFrom r ≡ plus (gapFrom s) (gapFrom g) ⌝ }
-{
-    Gap {
-        space: s.space + g.space,
-        shrink1: s.shrink1 + g.shrink1,
-        shrink2: s.shrink2 + g.shrink2,
-        stretch1: s.stretch1 + g.stretch1,
-        stretch2: s.stretch2 + g.stretch2,
-    }
+    gaps[a]
 }
 
 // The sums of the line of the records from `i` up to `j`.
 pub(crate) fn line_sums(
     ws: &[u32],
     units: &[u32; 768],
-    gaps: &[u32; 1280],
+    gaps: &[u64; 256],
     i: usize,
     j: usize,
 ) -> Sums
@@ -102,18 +69,23 @@ pub(crate) fn line_sums(
     ensures { λ r. ⌜ SumsOf (lineAt (now (ws .entry)) i j) r ⌝ }
 {
     let mut advances = unit_advance(units, i);
-    let mut total = no_gaps();
-    let mut a = i;
+    let mut total: u64 = 0;
+    let mut last = i;
     let mut next = unit_end(units, i);
-    while next < j {
-        total = added(total, gap_at(gaps, a));
-        a = next;
-        advances += unit_advance(units, a);
-        next = unit_end(units, a);
+    // by records and not by units: no turn waits for a unit's end to be read
+    let mut k = i + 1;
+    while k < j {
+        if k == next {
+            total = added(total, gap_at(gaps, last));
+            advances += unit_advance(units, k);
+            last = k;
+            next = unit_end(units, k);
+        }
+        k += 1;
     }
     Sums {
         advances: advances,
-        gaps: total,
+        gaps: unpack(total),
     }
 }
 
@@ -190,12 +162,10 @@ pub(crate) fn floors_at(e: Stages, c: Gap, s: Gap) -> Stages
     }
 }
 
-// A gap's space once adjusted, by the floors before it and after it.
-pub(crate) fn space_between(space: u32, before: Stages, after: Stages) -> u32
-    requires { ⌜ Between space (amountsFrom before) (amountsFrom after) ⌝ }
-    ensures { λ r. ⌜ r ≡ spaceBetween space (amountsFrom before) (amountsFrom after) ⌝ }
+// Where the unit after gaps of this space starts, by the floors up to them.
+pub(crate) fn place_after(solid: u32, space: u32, f: Stages) -> u32
+    requires { ⌜ Movable solid space (amountsFrom f) ⌝ }
+    ensures { λ r. ⌜ r ≡ placeAfter solid space (amountsFrom f) ⌝ }
 {
-    space - (after.shrink1 - before.shrink1) - (after.shrink2 - before.shrink2)
-        + (after.stretch1 - before.stretch1)
-        + (after.stretch2 - before.stretch2)
+    solid + (space - f.shrink1 - f.shrink2) + f.stretch1 + f.stretch2
 }

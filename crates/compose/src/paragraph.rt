@@ -31,7 +31,7 @@ fn says(number: u32, place: usize) -> Answer
 }
 
 // Fills the table of units, then those of gaps and runs, from a paragraph that answers 8 and 9 let pass.
-fn fill_tables(ws: &[u32], units: &mut [u32; 768], gaps: &mut [u32; 1280], runs: &mut [u32; 768])
+fn fill_tables(ws: &[u32], units: &mut [u32; 768], gaps: &mut [u64; 256], runs: &mut [u32; 768])
     requires { ⌜ Checked (now ws) ⌝ }
     ensures { λ _. ⌜ Filled (now (ws .entry)) (now (units .exit)) (now (gaps .exit)) (now (runs .exit)) ⌝ }
 {
@@ -45,7 +45,7 @@ fn judge(
     m: u32,
     x: u32,
     units: &mut [u32; 768],
-    gaps: &mut [u32; 1280],
+    gaps: &mut [u64; 256],
     runs: &mut [u32; 768],
 ) -> Answer
     requires { ⌜ Fitting (now ws) m x ⌝ }
@@ -75,7 +75,7 @@ pub fn check(ws: &[u32], m: u32, x: u32) -> bool
     ensures { λ r. ⌜ r ≡ eqb (judged m x (paragraph (now (ws .entry))) .number) 0 ⌝ }
 {
     let mut units = [0u32; 768];
-    let mut gaps = [0u32; 1280];
+    let mut gaps = [0u64; 256];
     let mut runs = [0u32; 768];
     let a = judge(ws, m, x, &mut units, &mut gaps, &mut runs);
     a.number == 0
@@ -95,7 +95,7 @@ pub fn compose(
         (now (places .exit)) (now (lines .exit)) (r .number) (r .place) ⌝ }
 {
     let mut units = [0u32; 768];
-    let mut gaps = [0u32; 1280];
+    let mut gaps = [0u64; 256];
     let mut runs = [0u32; 768];
     let a = judge(ws, m, x, &mut units, &mut gaps, &mut runs);
     if a.number != 0 {

@@ -11,20 +11,20 @@ ghost use Rattle.compose.specs.Lines.{Composable, Written};
 ghost use Rattle.compose.specs.Adjusted.{amountsFrom, withUnit, UnitToPlace};
 ghost use Rattle.compose.specs.Adjusted.{LineToPlace, LinePlaced, LineToCompose, LineComposed};
 use crate::adjustment::Stages;
-use crate::adjustment::added;
 use crate::adjustment::floors_at;
 use crate::adjustment::gap_at;
 use crate::adjustment::line_amounts;
 use crate::adjustment::line_kind;
 use crate::adjustment::line_sums;
-use crate::adjustment::no_gaps;
-use crate::adjustment::space_between;
+use crate::adjustment::place_after;
 use crate::adjustment::unit_advance;
 use crate::adjustment::unit_end;
 use crate::adjustment::wide;
 use crate::checks::record_at;
 use rules::Gap;
+use rules::added;
 use rules::base_offset;
+use rules::unpack;
 
 // Writes the place of record `b`.
 fn put_place(places: &mut [u32], b: usize, x: u32, line: u32)
@@ -60,7 +60,7 @@ fn place_unit(ws: &[u32], units: &[u32; 768], a: usize, line: u32, x: u32, place
 fn place_line(
     ws: &[u32],
     units: &[u32; 768],
-    gaps: &[u32; 1280],
+    gaps: &[u64; 256],
     i: usize,
     j: usize,
     line: u32,
@@ -75,26 +75,20 @@ fn place_line(
 {
     let mut a = i;
     let mut at = x;
-    let mut sums = no_gaps();
-    let mut before = Stages {
-        shrink1: 0,
-        shrink2: 0,
-        stretch1: 0,
-        stretch2: 0,
-    };
+    // where the units before would end if they stood solid
+    let mut solid = x;
+    let mut sums: u64 = 0;
     loop {
         place_unit(ws, units, a, line, at, places);
-        let end = at + unit_advance(units, a);
+        let advance = unit_advance(units, a);
         let next = unit_end(units, a);
         if j <= next {
-            return end;
+            return at + advance;
         }
-        let g = gap_at(gaps, a);
-        let upto = added(sums, g);
-        let after = floors_at(e, c, upto);
-        at = end + space_between(g.space, before, after);
-        sums = upto;
-        before = after;
+        solid += advance;
+        sums = added(sums, gap_at(gaps, a));
+        let upto = unpack(sums);
+        at = place_after(solid, upto.space, floors_at(e, c, upto));
         a = next;
     }
 }
@@ -114,7 +108,7 @@ fn put_line(lines: &mut [u32], k: usize, first: u32, end: u32, kind: u32)
 fn compose_line(
     ws: &[u32],
     units: &[u32; 768],
-    gaps: &[u32; 1280],
+    gaps: &[u64; 256],
     i: usize,
     j: usize,
     k: usize,
@@ -151,7 +145,7 @@ fn line_end(starts: &[u32; 256], count: usize, k: usize, size: usize) -> usize
 pub(crate) fn place_lines(
     ws: &[u32],
     units: &[u32; 768],
-    gaps: &[u32; 1280],
+    gaps: &[u64; 256],
     starts: &[u32; 256],
     count: usize,
     m: u32,

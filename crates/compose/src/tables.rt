@@ -2,24 +2,33 @@
 // hangs on what follows it.
 ghost use mathlib.Core.Path.{_≡_};
 ghost use Prim.Native.Nat.{_+_, _*_, _<_, _≤_};
-ghost use lib.ListN.{length};
+ghost use lib.ListN.{length, set};
 ghost use lib.Seq.{sets};
 ghost use mathlib.Core.List.{[], _∷_};
 ghost use Rattle.rules.specs.Records.{recAt};
 ghost use Rattle.rules.specs.Sides.{sideBy};
-ghost use Rattle.rules.specs.Gaps.{least};
-ghost use Rattle.rules.specs.Values.{sideOf, gapFrom};
+ghost use Rattle.rules.specs.Values.{sideOf, Laid};
 ghost use Rattle.compose.specs.Paragraph.{size, Checked};
-ghost use Rattle.compose.specs.Tables.{UnitTable, gapWords, Gives, GapTable};
+ghost use Rattle.compose.specs.Tables.{UnitTable, GapTable};
 ghost use Rattle.compose.specs.Tables.{RowOf, RunsAfter, RunTable};
-use crate::adjustment::no_gaps;
 use crate::checks::record_at;
 use crate::checks::same_group;
-use rules::Gap;
 use rules::Side;
 use rules::break_forbidden;
+use rules::class_table;
+use rules::entry_words;
 use rules::gap_between;
 use rules::group_advance;
+use rules::least_of;
+use rules::spacing_table;
+
+// Writes row `i` of a table of one word to a row.
+fn put_word(table: &mut [u64], i: usize, word: u64)
+    requires { ⌜ i < length (now table) ⌝ }
+    ensures { λ _. ⌜ now (table .exit) ≡ set (now (table .entry)) i word ⌝ }
+{
+    table[i] = word;
+}
 
 // Writes row `i` of a table of three words to a row.
 fn put_row(table: &mut [u32], i: usize, first: u32, second: u32, third: u32)
@@ -70,39 +79,27 @@ fn side_at(ws: &[u32], i: usize) -> Side
     }
 }
 
-// Writes a gap into row `i`.
-fn put_gap(gaps: &mut [u32], i: usize, gap: Gap)
-    requires { ⌜ 5 * i + 5 ≤ length (now gaps) ⌝ }
-    ensures { λ _. ⌜ now (gaps .exit) ≡ sets (now (gaps .entry)) (5 * i) (gapWords (gapFrom gap)) ⌝ }
-{
-    let a = 5 * i;
-    gaps[a] = gap.space;
-    gaps[a + 1] = gap.shrink1;
-    gaps[a + 2] = gap.shrink2;
-    gaps[a + 3] = gap.stretch1;
-    gaps[a + 4] = gap.stretch2;
-}
-
-// The least that a gap can be.
-fn least_of(gap: Gap) -> u32
-    requires { ⌜ Gives (gapFrom gap) ⌝ }
-    ensures { λ r. ⌜ r ≡ least (gapFrom gap) ⌝ }
-{
-    gap.space - gap.shrink1 - gap.shrink2
-}
-
 // What the tables of gaps and runs have for a record: the gap after its unit, and the width, the records and the least
 // gap after its run.
 pub(crate) struct Row {
-    pub gap: Gap,
+    pub gap: u64,
     pub width: u32,
     pub records: u32,
     pub least: u32,
 }
 
-// The row of record `i`, from the rows after it.
-fn row_at(ws: &[u32], units: &[u32; 768], runs: &[u32; 768], i: usize) -> Row
+// The row of record `i`, from the rows after it. The last three are the tables that a gap is looked up in.
+fn row_at(
+    ws: &[u32],
+    units: &[u32; 768],
+    runs: &[u32; 768],
+    i: usize,
+    classes: &[u8; 28],
+    spacing: &[[u8; 18]; 18],
+    words: &[[u64; 2]; 10],
+) -> Row
     requires { ⌜ RunsAfter (now ws) (now units) (now runs) i ⌝ }
+    requires { ⌜ Laid (now classes) (now spacing) (now words) ⌝ }
     ensures { λ r. ⌜ RowOf (now (ws .entry)) i r ⌝ }
 {
     let records = units[3 * i];
@@ -110,7 +107,7 @@ fn row_at(ws: &[u32], units: &[u32; 768], runs: &[u32; 768], i: usize) -> Row
     let next = i + records as usize;
     if ws.len() / 6 <= next {
         return Row {
-            gap: no_gaps(),
+            gap: 0,
             width: advance,
             records: records,
             least: 0,
@@ -119,7 +116,7 @@ fn row_at(ws: &[u32], units: &[u32; 768], runs: &[u32; 768], i: usize) -> Row
     let l = side_at(ws, i);
     let r = side_at(ws, next);
     let tied = break_forbidden(l, r);
-    let gap = gap_between(l, r, tied);
+    let gap = gap_between(l, r, tied, classes, spacing, words);
     let least = least_of(gap);
     if tied {
         let a = 3 * next;
@@ -147,18 +144,21 @@ fn row_at(ws: &[u32], units: &[u32; 768], runs: &[u32; 768], i: usize) -> Row
 pub(crate) fn fill_gaps_and_runs(
     ws: &[u32],
     units: &[u32; 768],
-    gaps: &mut [u32; 1280],
+    gaps: &mut [u64; 256],
     runs: &mut [u32; 768],
 )
     requires { ⌜ Checked (now ws) × UnitTable (now ws) (now units) ⌝ }
     ensures { λ _. ⌜ GapTable (now (ws .entry)) (now (gaps .exit)) × RunTable (now (ws .entry)) (now (runs .exit)) ⌝ }
 {
+    // laid down once for all gaps
+    let classes = class_table();
+    let spacing = spacing_table();
+    let words = entry_words();
     let mut i = ws.len() / 6;
     while 0 < i {
         i -= 1;
-        let row = row_at(ws, units, runs, i);
-        let gap = row.gap;
-        put_gap(gaps, i, gap);
+        let row = row_at(ws, units, runs, i, &classes, &spacing, &words);
+        put_word(gaps, i, row.gap);
         put_row(runs, i, row.width, row.records, row.least);
     }
 }

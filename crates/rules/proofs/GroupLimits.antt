@@ -1,8 +1,8 @@
--- Bounds: what answers 8 and 9 leave of units and gaps. Assumes nothing.
+-- Bounds: what answers 8 and 9 leave of units. Assumes nothing.
 use mathlib.Core.Path.{_≡_}
 use Prim.Native.Nat.{ℕ, zero, suc, _+_, _≤_, _<_}
 use native.Mathlib.Omega.{arith}
-use mathlib.Core.Bool.{Bool, true, false, cond, not, _&&_}
+use mathlib.Core.Bool.{true, false, cond, _&&_}
 use mathlib.Core.List.{List, [], _∷_}
 use mathlib.Core.Logic.{inl, inr}
 use mathlib.Core.Option.{none, some}
@@ -11,11 +11,7 @@ use lib.ListN.{drop}
 use borrow.Author.Tests.{ltb-true}
 use Rattle.rules.specs.Basics.{cut}
 use Rattle.rules.specs.Records.{Rec}
-use Rattle.rules.specs.Sides.{Side}
 use Rattle.rules.specs.Groups.{TextUnit, sameGroup, badGroup, groupFault, units, count, groupAdvance}
-use Rattle.rules.specs.Space.{Fraction, no-part, eighth, quarter, half, part, Space, measured}
-use Rattle.rules.specs.Sides.{forbidden}
-use Rattle.rules.specs.Gaps.{Flexibility, early, late, rigid, brought, Gap, gapBy, gapOf, weight}
 use Rattle.rules.proofs.Bounds.{rubyTotal-small}
 use Rattle.rules.proofs.Cuts.{cut-first}
 use Rattle.rules.proofs.Facts.{tested, some-none}
@@ -90,47 +86,3 @@ units-few (r ∷ rs) h k = group-each 1 1 r rs (omega arith) (omega arith) h k
 pub advance-bound-of : (base n s : ℕ) → base ≤ 128000 → n ≤ 64 → s ≤ 4000 → groupAdvance base n s ≤ 128000
 unfolding groupAdvance
 advance-bound-of base n s b h k = omega (arith, rubyTotal-small n s h k)
-
--- Gaps -------------------------------------------------------------------------------------------------------------
-
-pub record GapBounds (g : Gap) : Type 0 where
-  pub space : g .space ≤ 4000
-  pub shrink : g .shrink₁ + g .shrink₂ ≤ g .space
-  pub stretch₁ : g .stretch₁ ≤ 4000
-  pub stretch₂ : g .stretch₂ ≤ 1
-
-part-bound : (f : Fraction) (s : ℕ) → s ≤ 4000 → part f s ≤ 2000
-part-bound no-part s h = omega arith
-part-bound eighth s h = omega arith
-part-bound quarter s h = omega arith
-part-bound half s h = omega arith
-
-measured-bound : (p : Space) (l r : ℕ) → l ≤ 4000 → r ≤ 4000 → measured p l r ≤ 4000
-unfolding measured
-measured-bound p l r h k = omega (arith, part-bound (p .left) l h, part-bound (p .right) r k)
-
-gap-by-bounds : (f : Flexibility) (p : Space) (l r w : ℕ) → l ≤ 4000 → r ≤ 4000 → w ≤ 1 → GapBounds (gapBy f p l r w)
-unfolding gapBy
-gap-by-bounds early p l r w h k v =
-    record { space = measured-bound p l r h k; shrink = omega arith; stretch₁ = omega arith; stretch₂ = v }
-gap-by-bounds late p l r w h k v =
-    record {
-      space = measured-bound p l r h k;
-      shrink = omega arith;
-      stretch₁ = omega (arith, measured-bound (brought half p) l r h k);
-      stretch₂ = v;
-    }
-gap-by-bounds rigid p l r w h k v =
-    record { space = measured-bound p l r h k; shrink = omega arith; stretch₁ = omega arith; stretch₂ = v }
-
-one-at-most : (b : Bool) → cond b 1 0 ≤ 1
-one-at-most true = omega arith
-one-at-most false = omega arith
-
-weight-bound : (l r : Side) → weight l r ≤ 1
-unfolding weight
-weight-bound l r = one-at-most (not (forbidden l r) && not (eqb (l .class) 5) && not (eqb (r .class) 5))
-
-pub gap-bounds : (l r : Side) → l .size ≤ 4000 → r .size ≤ 4000 → GapBounds (gapOf l r)
-unfolding gapOf
-gap-bounds l r h k = gap-by-bounds _ _ (l .size) (r .size) (weight l r) h k (weight-bound l r)

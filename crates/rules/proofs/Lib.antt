@@ -26,7 +26,10 @@ pub mod Lengths
 pub mod Zeros
 pub mod Claims
 pub mod Bounds
-pub mod Gaps
+pub mod Packed
+pub mod Cells
+pub mod Entries
+pub mod GapWords
 pub mod Ties
 pub mod Rows
 pub mod Table

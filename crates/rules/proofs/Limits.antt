@@ -10,8 +10,10 @@ use lib.Dec.{leb, eqb}
 use lib.ListN.{drop}
 use borrow.Author.Tests.{eqb-true}
 use Rattle.rules.specs.Basics.{within, isIn}
-use Rattle.rules.specs.Records.{Rec, codeOk, classOk, sizeOk, AdvanceKind, half-size, to-size, to-twice}
+use Rattle.rules.specs.Records.{Rec, codeOk, classes, classOk, sizeOk, AdvanceKind, half-size, to-size, to-twice}
 use Rattle.rules.specs.Records.{full-size, advanceKind, advanceFits, advanceOk, groupOk, recOk, badRecord}
+use Rattle.rules.specs.Sides.{sideBy}
+use Rattle.rules.specs.Values.{SideOk}
 use Rattle.rules.proofs.Bounds.{within-high}
 use Rattle.rules.proofs.Facts.{tested, true-false, nil-cons, some-none}
 
@@ -44,8 +46,9 @@ ruby-bound c g n e =
           within-high 1 64 n (and-right (leb g 65535) (within 1 64 n) (and-left _ (isIn c (15 ∷ 16 ∷ 19 ∷ [])) f))
     ]
 
--- what is asked of a record's size, advance and group
+-- what is asked of a record's class, size, advance and group
 pub record Asked (r : Rec) : Type 0 where
+  pub class : classOk (r .class) ≡ true
   pub size : sizeOk (r .size) ≡ true
   pub advance : advanceOk (r .class) (r .size) (r .advance) ≡ true
   pub group : groupOk (r .class) (r .group) (r .ruby) ≡ true
@@ -59,6 +62,7 @@ asked r e =
     let all₃ : coded && sizeOk (r .size) && advanced ≡ true = and-left _ grouped e in
     let all₂ : coded && sizeOk (r .size) ≡ true = and-left _ advanced all₃ in
     record {
+      class = and-right (codeOk (r .code)) (classOk (r .class)) (and-left coded (sizeOk (r .size)) all₂);
       size = and-right coded (sizeOk (r .size)) all₂;
       advance = and-right (coded && sizeOk (r .size)) advanced all₃;
       group = and-right (coded && sizeOk (r .size) && advanced) grouped e;
@@ -72,6 +76,16 @@ record-bounds r e =
     let a = advance-bound (advanceKind (r .class)) (r .size) (r .advance) (q .advance) in
     let n = ruby-bound (r .class) (r .group) (r .ruby) (q .group) in
     record { size = s; advance = omega arith; ruby = n }
+
+-- and what its neighbours see of it
+pub side-ok : (r : Rec) → recOk r ≡ true → SideOk (sideBy r)
+unfolding sideBy classOk classes
+side-ok r e =
+    let q = asked r e in
+    elim (tested (eqb (r .group) 0)) [
+      | inl z ↦ record { class = rw z (q .class); size = q .size }
+      | inr z ↦ record { class = rw z; size = q .size }
+    ]
 
 -- where answer 8 does not apply, each record keeps its rules
 pub records-ok : (i : ℕ) (rs : List Rec) → badRecord i rs ≡ none → (k : ℕ) (r : Rec) (qs : List Rec) →

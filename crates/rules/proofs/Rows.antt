@@ -5,6 +5,7 @@ use Prim.Native.Nat.{ℕ, zero, suc, _/_, _%_, _≤_, _<_}
 use native.Mathlib.Omega.{arith}
 use mathlib.Core.Bool.{Bool, true, false, cond, _&&_, _||_, and-eq-true-iff}
 use mathlib.Core.List.{List, [], _∷_}
+use mathlib.Core.Logic.{inl, inr}
 use lib.Dec.{ltb, eqb, leb·suc-suc}
 use lib.ListN.{length, getD}
 use borrow.Author.Tests.{ne-eqb, ltb-true, lt-ltb}
@@ -12,6 +13,7 @@ use Rattle.rules.specs.Basics.{isIn}
 use Rattle.rules.specs.Records.{classes, classOk, placeIn, rowOf, advanceKind}
 use Rattle.rules.specs.Records.{AdvanceKind, half-size, to-size, to-twice, full-size}
 use Rattle.rules.specs.Values.{kindNumber, kindNumbered, entryOf, classTable}
+use Rattle.rules.proofs.Facts.{ordered, true-false}
 use Rattle.rules.proofs.Table.{tabled-at}
 
 -- a kind of advance and its number
@@ -83,3 +85,15 @@ placeIn-below c (k ∷ ks) = cases (eqb c k) (placeIn c ks) (length ks) (isIn c 
 pub classOk-row : (c : ℕ) → classOk c ≡ ltb (rowOf c) 18
 unfolding classOk classes rowOf
 classOk-row c = placeIn-below c classes
+
+-- a class is in the table
+pub class-small : (c : ℕ) → classOk c ≡ true → c < 28
+unfolding classOk classes
+class-small c e =
+    elim (ordered c 28) [
+      | inl h ↦ h
+      | inr h ↦ absurd (true-false (sym e ∙ below-past 28 c h classes refl .0))
+    ]
+
+pub row-small : (c : ℕ) → classOk c ≡ true → rowOf c < 18
+row-small c e = ltb-true (rowOf c) 18 (sym (classOk-row c) ∙ e)

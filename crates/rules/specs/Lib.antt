@@ -10,6 +10,8 @@ pub mod Breaks
 pub mod Adjustment
 pub mod Sheet
 pub mod Refusals
+pub mod Spacing
+pub mod Packed
 pub mod Values
 pub mod Meanings
 pub mod Percent

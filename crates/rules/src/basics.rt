@@ -30,9 +30,3 @@ pub(crate) fn one_of3(x: u32, a: u32, b: u32, c: u32) -> bool
 {
     (x == a) | one_of2(x, b, c)
 }
-
-pub(crate) fn one_of4(x: u32, a: u32, b: u32, c: u32, d: u32) -> bool
-    ensures { λ t. ⌜ t ≡ isIn x (a ∷ b ∷ c ∷ d ∷ []) ⌝ }
-{
-    (x == a) | one_of3(x, b, c, d)
-}

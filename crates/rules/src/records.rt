@@ -83,7 +83,8 @@ pub fn class_table() -> [u8; 28]
     CLASSES
 }
 
-fn wide(x: u8) -> u32
+// A byte of a table as a number.
+pub(crate) fn wide(x: u8) -> u32
     ensures { λ r. ⌜ r ≡ x ⌝ }
 {
     x as u32

@@ -1,0 +1,141 @@
+-- The spacing table: that the entry of each cell agrees with the rules is computed over all 324 cells, and turned into
+-- the rule at each pair of classes. Assumes nothing.
+use mathlib.Core.Path.{_≡_, refl, ap, sym, _∙_}
+use Prim.Native.Nat.{ℕ, zero, suc, _<_}
+use mathlib.Core.Bool.{Bool, true, false, _&&_, _||_, and-eq-true-iff}
+use mathlib.Core.List.{List, [], _∷_, map}
+use mathlib.Core.Logic.{inl, inr}
+use lib.Dec.{ltb, eqb}
+use lib.ListN.{getD}
+use borrow.Author.Tests.{ltb-true, eqb-true}
+use Rattle.rules.specs.Basics.{isIn}
+use Rattle.rules.specs.Records.{classes, classOk, placeIn, rowOf}
+use Rattle.rules.specs.Space.{Fraction, no-part, eighth, quarter, half, Space, spaced, measured}
+use Rattle.rules.specs.Space.{ruleOf, spaceBy, spaceOf}
+use Rattle.rules.specs.Gaps.{Flexibility, early, late, rigid, flexibility, gapBy}
+use Rattle.rules.specs.Spacing.{Entry, solid, entries, named, gapSet, eighths, stage, sameSpace, agrees, cellOf}
+use Rattle.rules.specs.Spacing.{spacingTable, cellIn}
+use Rattle.rules.proofs.Facts.{tested, true-false}
+
+-- a test over a list of numbers --------------------------------------------------------------------------------------
+
+abbrev allOf : (ℕ → Bool) → List ℕ → Bool
+allOf t [] = true
+allOf t (k ∷ ks) = t k && allOf t ks
+
+all-at : (t : ℕ → Bool) (ks : List ℕ) → allOf t ks ≡ true → (c : ℕ) → isIn c ks ≡ true → t c ≡ true
+all-at t [] h c e = absurd (true-false (sym e))
+all-at t (k ∷ ks) h c e =
+    let both = and-eq-true-iff (t k) (allOf t ks) .0 h in
+    elim (tested (eqb c k)) [
+      | inl q ↦ rw (eqb-true c k q) (both .0)
+      | inr q ↦ all-at t ks (both .1) c (rw q at e)
+    ]
+
+map-at : {A : Type 0} (g : ℕ → A) (d : A) (ks : List ℕ) (c : ℕ) → isIn c ks ≡ true →
+    getD (map g ks) (placeIn c ks) d ≡ g c
+map-at g d [] c e = absurd (true-false (sym e))
+map-at g d (k ∷ ks) c e =
+    elim (tested (eqb c k)) [
+      | inl q ↦ rw (q, eqb-true c k q)
+      | inr q ↦ rw q (map-at g d ks c (rw q at e))
+    ]
+
+-- the test -----------------------------------------------------------------------------------------------------------
+
+-- the cell of two classes is one of ten entries, which agrees with the rules
+abbrev right : ℕ → ℕ → Bool
+right L R = ltb (cellOf L R) 10 && agrees (named (cellOf L R)) L R
+
+cells-agree : allOf (λ L. allOf (λ R. right L R) classes) classes ≡ true
+unfolding classes cellOf entries agrees spaceOf spaceBy ruleOf flexibility
+cells-agree = refl
+
+-- what it says of two classes ----------------------------------------------------------------------------------------
+
+-- a fraction is told by its eighths, and how a gap gives way by its stage
+counted : ℕ → Fraction
+counted zero = no-part
+counted (suc zero) = eighth
+counted (suc (suc zero)) = quarter
+counted (suc (suc (suc n))) = half
+
+counted-eighths : (f : Fraction) → counted (eighths f) ≡ f
+unfolding counted
+counted-eighths no-part = refl
+counted-eighths eighth = refl
+counted-eighths quarter = refl
+counted-eighths half = refl
+
+staged : ℕ → Flexibility
+staged zero = rigid
+staged (suc zero) = early
+staged (suc (suc n)) = late
+
+staged-stage : (f : Flexibility) → staged (stage f) ≡ f
+unfolding staged
+staged-stage early = refl
+staged-stage late = refl
+staged-stage rigid = refl
+
+same-fraction : (f g : Fraction) → eqb (eighths f) (eighths g) ≡ true → f ≡ g
+same-fraction f g e = sym (counted-eighths f) ∙ ap counted (eqb-true (eighths f) (eighths g) e) ∙ counted-eighths g
+
+same-space : (p q : Space) → sameSpace p q ≡ true → p ≡ q
+same-space p q e =
+    let both = and-eq-true-iff (eqb (eighths (p .left)) (eighths (q .left))) _ .0 e in
+    let l = same-fraction (p .left) (q .left) (both .0) in
+    let r = same-fraction (p .right) (q .right) (both .1) in
+    λ t. spaced (l t) (r t)
+
+-- where no space is set, nothing gives way
+nothing-gives : (f g : Flexibility) (l r w : ℕ) → gapBy f (solid .space) l r w ≡ gapBy g (solid .space) l r w
+unfolding gapBy measured
+nothing-gives f g l r w = alike f ∙ sym (alike g)
+  where
+    alike : (f : Flexibility) → gapBy f (solid .space) l r w ≡ gapBy rigid (solid .space) l r w
+    alike early = refl
+    alike late = refl
+    alike rigid = refl
+
+-- what an entry that agrees sets is what the rules set
+pub agrees-gap : (e : Entry) (L R : ℕ) → agrees e L R ≡ true → (l r w : ℕ) →
+    gapSet e l r w ≡ gapBy (flexibility (ruleOf L R) L) (spaceOf L R) l r w
+unfolding agrees
+agrees-gap e L R h l r w =
+    let x = flexibility (ruleOf L R) L in
+    let both = and-eq-true-iff (sameSpace (e .space) (spaceOf L R)) _ .0 h in
+    let p = same-space (e .space) (spaceOf L R) (both .0) in
+    elim (tested (sameSpace (solid .space) (spaceOf L R))) [
+      | inl z ↦
+          let q = same-space (solid .space) (spaceOf L R) z in
+          ap (λ s. gapBy (e .gives) s l r w) (p ∙ sym q) ∙ nothing-gives (e .gives) x l r w
+          ∙ ap (λ s. gapBy x s l r w) q
+      | inr z ↦
+          let g : eqb (stage (e .gives)) (stage x) ≡ true = rw z at (both .1) in
+          let f : e .gives ≡ x =
+          sym (staged-stage (e .gives)) ∙ ap staged (eqb-true (stage (e .gives)) (stage x) g) ∙ staged-stage x in
+          λ t. gapBy (f t) (p t) l r w
+    ]
+
+module _ (L R : ℕ) (l : classOk L ≡ true) (r : classOk R ≡ true) where
+  right-at : right L R ≡ true
+  unfolding classOk
+  right-at = all-at (λ S. right L S) classes (all-at (λ K. allOf (λ S. right K S) classes) classes cells-agree L l) R r
+
+  pub cell-small : cellOf L R < 10
+  cell-small = ltb-true (cellOf L R) 10 (and-eq-true-iff (ltb (cellOf L R) 10) _ .0 right-at .0)
+
+  -- the table's cell, and the gap that its entry sets
+  pub cell-at : cellIn spacingTable L R ≡ cellOf L R
+  unfolding classOk spacingTable rowOf
+  cell-at =
+      ap (λ ks. getD ks (placeIn R classes) 0) (map-at (λ K. map (λ S. cellOf K S) classes) [] classes L l)
+      ∙ map-at (λ S. cellOf L S) 0 classes R r
+
+  pub cell-agrees : agrees (named (cellOf L R)) L R ≡ true
+  cell-agrees = and-eq-true-iff (ltb (cellOf L R) 10) _ .0 right-at .1
+
+  pub cell-gap : (a b w : ℕ) →
+      gapSet (named (cellOf L R)) a b w ≡ gapBy (flexibility (ruleOf L R) L) (spaceOf L R) a b w
+  cell-gap a b w = agrees-gap (named (cellOf L R)) L R cell-agrees a b w

@@ -1,0 +1,61 @@
+-- Document 02, request 02: a gap in one word, so that one addition sums its space and all its capacities.
+--
+--   field        least, 20 bits wide, from the right; shrink stage 1 and shrink stage 2, 18 bits each; stretch stage 2,
+--                8 bits
+--   packed       a gap as a word; the space is least and both shrinks, stretch stage 1 twice shrink stage 2
+--   unpacked     the gap that a word holds
+--   at most n    what n gaps add up to: sizes go to 4,000, and to 8,000 where a gap shrinks at stage 2. The sums of 255
+--                gaps stay in their fields
+--   words        what a size of 8 has of an entry, on the left and on the right
+--
+-- Assumes nothing.
+use mathlib.Core.Path.{_≡_}
+use Prim.Native.Nat.{ℕ, _+_, _*_, _/_, _%_, _≤_}
+use mathlib.Core.List.{List, [], _∷_, map}
+use Rattle.rules.specs.Gaps.{Gap, least}
+use Rattle.rules.specs.Spacing.{Entry, entries, named, gapSet}
+
+unfoldable pub packed : Gap → ℕ
+packed g = least g + 1048576 * (g .shrink₁ + 262144 * (g .shrink₂ + 262144 * g .stretch₂))
+
+-- the least that the gap of a word can be
+abbrev pub leastIn : ℕ → ℕ
+leastIn w = w % 1048576
+
+unfoldable pub unpacked : ℕ → Gap
+unpacked w =
+    let shrink₁ = w / 1048576 % 262144 in
+    let shrink₂ = w / 1048576 / 262144 % 262144 in
+    record {
+      space = leastIn w + shrink₁ + shrink₂;
+      shrink₁ = shrink₁;
+      shrink₂ = shrink₂;
+      stretch₁ = 2 * shrink₂;
+      stretch₂ = w / 1048576 / 262144 / 262144;
+    }
+
+-- a gap gives no more than it has, and stretches at stage 1 by twice what it shrinks at stage 2
+pub record Packs (g : Gap) : Type 0 where
+  pub gives : g .shrink₁ + g .shrink₂ ≤ g .space
+  pub twice : g .stretch₁ ≡ 2 * g .shrink₂
+
+pub record AtMost (n : ℕ) (g : Gap) : Type 0 where
+  pub space : g .space ≤ 4000 * n
+  pub shrink₁ : g .shrink₁ ≤ 1000 * n
+  pub shrink₂ : g .shrink₂ ≤ 1000 * n
+  pub stretch₂ : g .stretch₂ ≤ n
+
+abbrev pub leftWord : Entry → ℕ
+leftWord e = packed (gapSet e 8 0 0)
+
+abbrev pub rightWord : Entry → ℕ
+rightWord e = packed (gapSet e 0 8 0)
+
+unfoldable pub entryWords : List (List ℕ)
+unfolding entries
+entryWords = map (λ e. leftWord e ∷ rightWord e ∷ []) entries
+
+-- a word that has an entry's words for each eighth of a left and of a right size, and no weight
+pub record Taken (n left right w : ℕ) : Type 0 where
+  pub word : w ≡ left / 8 * leftWord (named n) + right / 8 * rightWord (named n)
+  pub small : w ≤ 549755813888000

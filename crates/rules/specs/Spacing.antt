@@ -1,0 +1,91 @@
+-- Document 02, request 02: the spacing table, eighteen rows of eighteen cells.
+--
+--   row, column  the left and the right class, in the order of `classes`; source document 004 has them as before, 前, and
+--                after, 後ろ
+--   entry        what a cell names: the fractions of the left and of the right size that the space is, and how the gap
+--                gives way
+--   cell         an entry's number, from 0
+--
+-- Rules a to k stay the definition: a cell has the first of the ten entries that agrees with them. No cell is without
+-- one: `cells-agree` of proofs/Spacing.antt is computed over all 324. Assumes nothing.
+use Prim.Native.Nat.{ℕ, zero, suc, _+_, _<_}
+use mathlib.Core.Bool.{Bool, true, false, cond, _&&_, _||_}
+use mathlib.Core.List.{List, [], _∷_, map}
+use lib.Dec.{eqb}
+use lib.ListN.{getD}
+use Rattle.rules.specs.Records.{classes, rowOf}
+use Rattle.rules.specs.Space.{Fraction, no-part, eighth, quarter, half, Space, spaced, ruleOf, spaceOf}
+use Rattle.rules.specs.Gaps.{Flexibility, early, late, rigid, flexibility, Gap, gapBy}
+
+pub record Entry : Type 0 where
+  pub space : Space
+  pub gives : Flexibility
+
+abbrev pub entry : Fraction → Fraction → Flexibility → Entry
+entry a b f = record { space = spaced a b; gives = f }
+
+-- nothing: 無印, ベタ組
+abbrev pub solid : Entry
+solid = entry no-part no-part rigid
+
+-- the entries, in the order of their numbers, with the rules that set them
+unfoldable pub entries : List Entry
+entries =
+    solid  -- e and k; f, g and h where they set 0
+    ∷ entry quarter quarter rigid  -- a
+    ∷ entry half quarter rigid  -- b
+    ∷ entry no-part quarter rigid  -- c
+    ∷ entry quarter no-part rigid  -- d
+    ∷ entry half no-part early  -- f, and g after 7
+    ∷ entry half no-part rigid  -- g after 6
+    ∷ entry no-part half early  -- h
+    ∷ entry no-part quarter late  -- i
+    ∷ entry quarter no-part late  -- j
+    ∷ []
+
+-- the entry of a number
+abbrev pub named : ℕ → Entry
+named n = getD entries n solid
+
+-- the gap that an entry sets between a left and a right size, with its weight at stretch stage 2
+abbrev pub gapSet : Entry → ℕ → ℕ → ℕ → Gap
+gapSet e left right w = gapBy (e .gives) (e .space) left right w
+
+-- fractions and flexibilities as numbers, to compare them by
+abbrev pub eighths : Fraction → ℕ
+eighths no-part = 0
+eighths eighth = 1
+eighths quarter = 2
+eighths half = 4
+
+abbrev pub stage : Flexibility → ℕ
+stage rigid = 0
+stage early = 1
+stage late = 2
+
+abbrev pub sameSpace : Space → Space → Bool
+sameSpace p q = eqb (eighths (p .left)) (eighths (q .left)) && eqb (eighths (p .right)) (eighths (q .right))
+
+-- an entry agrees with the rules between two classes: it is their space, and where that is not nothing, it gives way as
+-- they say
+unfoldable pub agrees : Entry → ℕ → ℕ → Bool
+agrees e L R =
+    sameSpace (e .space) (spaceOf L R)
+    && (sameSpace (solid .space) (spaceOf L R) || eqb (stage (e .gives)) (stage (flexibility (ruleOf L R) L)))
+
+-- the place of the first entry that agrees, or the list's length
+abbrev pub firstAgreeing : List Entry → ℕ → ℕ → ℕ
+firstAgreeing [] L R = 0
+firstAgreeing (e ∷ es) L R = cond (agrees e L R) 0 (suc (firstAgreeing es L R))
+
+unfoldable pub cellOf : ℕ → ℕ → ℕ
+unfolding entries
+cellOf L R = firstAgreeing entries L R
+
+unfoldable pub spacingTable : List (List ℕ)
+unfolding classes
+spacingTable = map (λ L. map (λ R. cellOf L R) classes) classes
+
+-- the cell that a table has for two classes
+abbrev pub cellIn : List (List ℕ) → ℕ → ℕ → ℕ
+cellIn t L R = getD (getD t (rowOf L) []) (rowOf R) 0

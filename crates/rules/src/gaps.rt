@@ -1,0 +1,138 @@
+// "Breaks and adjustment": gaps with what they give and take, each in one word.
+ghost use mathlib.Core.Path.{_≡_};
+ghost use Prim.Native.Nat.{_+_, _*_, _/_, _<_, _≤_};
+ghost use Rattle.rules.specs.Sides.{forbidden};
+ghost use Rattle.rules.specs.Gaps.{gapOf};
+ghost use Rattle.rules.specs.Adjustment.{plus};
+ghost use Rattle.rules.specs.Packed.{leastIn, unpacked, AtMost, entryWords, Taken};
+ghost use Rattle.rules.specs.Values.{sideOf, gapFrom, SideOk, Laid};
+use crate::groups::Side;
+use crate::spacing::cell_between;
+
+// The space between two units, and its capacity at each stage of adjustment.
+pub struct Gap {
+    pub space: u32,
+    pub shrink1: u32,
+    pub shrink2: u32,
+    pub stretch1: u32,
+    pub stretch2: u32,
+}
+
+// A gap in one word: its least, then what shrink stage 1 and shrink stage 2 take, then its weight at stretch stage 2.
+// One of each of the last three:
+const SHRINK1: u64 = 0x100000;
+
+const SHRINK2: u64 = 0x4000000000;
+
+const WEIGHT: u64 = 0x100000000000000;
+
+// What a size of 8 has of a quarter and of a half that do not give way, of a half that shrinks at stage 1, and of a
+// quarter that shrinks at stage 2.
+const QUARTER: u64 = 2;
+
+const HALF: u64 = 4;
+
+const EARLY: u64 = 2 + 2 * SHRINK1;
+
+const LATE: u64 = 1 + SHRINK2;
+
+// For each entry of the spacing table what it takes of a left size of 8, and of a right one.
+const WORDS: [[u64; 2]; 10] = [
+    [0, 0],
+    [QUARTER, QUARTER],
+    [HALF, QUARTER],
+    [0, QUARTER],
+    [QUARTER, 0],
+    [EARLY, 0],
+    [HALF, 0],
+    [0, EARLY],
+    [0, LATE],
+    [LATE, 0],
+];
+
+// The words, for a caller to lay down once and lend to each gap.
+pub fn entry_words() -> [[u64; 2]; 10]
+    ensures { λ t. ⌜ t ≡ entryWords ⌝ }
+{
+    WORDS
+}
+
+// A word for each eighth of a size.
+fn times(size: u32, word: u64) -> u64
+    requires { ⌜ (size ≤ 4000) × (word ≤ 549755813888) ⌝ }
+    ensures { λ w. ⌜ (w ≡ size / 8 * word) × (w ≤ 274877906944000) ⌝ }
+{
+    (size / 8) as u64 * word
+}
+
+// What an entry takes of two sizes.
+fn taken(entry: usize, left: u32, right: u32, words: &[[u64; 2]; 10]) -> u64
+    requires { ⌜ (entry < 10) × (left ≤ 4000) × (right ≤ 4000) × (now words ≡ entryWords) ⌝ }
+    ensures { λ w. ⌜ Taken entry left right w ⌝ }
+{
+    times(left, words[entry][0]) + times(right, words[entry][1])
+}
+
+// The gap between two units in one word. `tied` where the break there is forbidden, which the caller asks for itself
+// too; the tables are lent.
+pub fn gap_between(
+    l: Side,
+    r: Side,
+    tied: bool,
+    classes: &[u8; 28],
+    spacing: &[[u8; 18]; 18],
+    words: &[[u64; 2]; 10],
+) -> u64
+    requires { ⌜ tied ≡ forbidden (sideOf l) (sideOf r) ⌝ }
+    requires { ⌜ SideOk (sideOf l) × SideOk (sideOf r) ⌝ }
+    requires { ⌜ Laid (now classes) (now spacing) (now words) ⌝ }
+    ensures { λ w. ⌜ unpacked w ≡ gapOf (sideOf l) (sideOf r) ⌝ }
+{
+    let entry = cell_between(l.class, r.class, classes, spacing);
+    // most gaps: nothing, and class 5 on neither side
+    if entry == 0 {
+        if tied {
+            return 0;
+        }
+        return WEIGHT;
+    }
+    let gap = taken(entry, l.size, r.size, words);
+    if tied {
+        return gap;
+    }
+    if l.class == 5 {
+        return gap;
+    }
+    gap + WEIGHT
+}
+
+// The least that a gap can be.
+pub fn least_of(gap: u64) -> u32
+    ensures { λ n. ⌜ n ≡ leastIn gap ⌝ }
+{
+    (gap % SHRINK1) as u32
+}
+
+// A word's gap.
+pub fn unpack(gap: u64) -> Gap
+    ensures { λ g. ⌜ gapFrom g ≡ unpacked gap ⌝ }
+{
+    let least = (gap % 0x100000) as u32;
+    let shrink1 = (gap / 0x100000 % 0x40000) as u32;
+    let shrink2 = (gap / 0x100000 / 0x40000 % 0x40000) as u32;
+    Gap {
+        space: least + shrink1 + shrink2,
+        shrink1: shrink1,
+        shrink2: shrink2,
+        stretch1: 2 * shrink2,
+        stretch2: (gap / 0x100000 / 0x40000 / 0x40000) as u32,
+    }
+}
+
+// Sums with one gap more: one addition, whatever the gap gives and takes.
+pub fn added(sums: u64, gap: u64) -> u64
+    requires { ⌜ AtMost 255 (plus (unpacked sums) (unpacked gap)) ⌝ }
+    ensures { λ w. ⌜ unpacked w ≡ plus (unpacked sums) (unpacked gap) ⌝ }
+{
+    sums + gap
+}
