@@ -16,6 +16,7 @@ pub mod RunRows
 pub mod RunScan
 pub mod Stored
 pub mod Stretches
+pub mod GapSums
 pub mod Sums
 pub mod UnitPlaces
 pub mod UnitScan

@@ -19,8 +19,8 @@ use Rattle.compose.specs.Lines.{lineAt}
 use Rattle.compose.specs.Adjusted.{PartOf, floors, placeAfter, Movable, unitPlaces, withUnit}
 use Rattle.compose.specs.Adjusted.{UnitToPlace, linePlaces, lineEnd, LineToPlace, LinePlaced}
 use Rattle.compose.proofs.Stretches.{line-last}
-use Rattle.compose.proofs.Sums.{plus-assoc, nothing-plus, part-of, line-first, after-more}
-use Rattle.compose.proofs.Sums.{gap-row, gap-bounds, at-most-more, at-most-255, advance-limit}
+use Rattle.compose.proofs.GapSums.{plus-assoc, nothing-plus, part-of, at-most-more, at-most-255}
+use Rattle.compose.proofs.Sums.{line-first, after-more, gap-row, gap-bounds, advance-limit}
 use Rattle.compose.proofs.Floors.{place-first, place-next, floors-movable, place-limit}
 use Rattle.compose.proofs.Pastes.{Pasting, paste-start, paste-length, paste-more}
 use Rattle.rules.proofs.Lengths.{length-placesOf}

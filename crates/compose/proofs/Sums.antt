@@ -2,65 +2,26 @@
 use mathlib.Core.Path.{_≡_, refl, ap, sym, _∙_}
 use Prim.Native.Nat.{ℕ, _+_, _*_, _≤_, _<_}
 use native.Mathlib.Omega.{arith}
-use native.Mathlib.Nat.{add-assoc, add-zero, zero-add}
+use native.Mathlib.Nat.{add-assoc, add-zero}
 use mathlib.Core.List.{List, [], _∷_}
 use lib.ListN.{getD}
 use Rattle.rules.specs.Basics.{whole}
 use Rattle.rules.specs.Groups.{advance}
 use Rattle.rules.specs.Gaps.{Gap}
 use Rattle.rules.specs.Breaks.{gap}
-use Rattle.rules.specs.Adjustment.{plus, nothing, totals, gapsOf, unitAdvances}
+use Rattle.rules.specs.Adjustment.{plus, totals, gapsOf, unitAdvances}
 use Rattle.rules.specs.Values.{gapFrom}
 use Rattle.rules.specs.Packed.{unpacked, AtMost}
 use Rattle.rules.proofs.GapWords.{GapBounds}
 use Rattle.compose.specs.Paragraph.{size, unitAt, nextAt}
 use Rattle.compose.specs.Tables.{gapIn}
 use Rattle.compose.specs.Lines.{lineAt, Tabled}
-use Rattle.compose.specs.Adjusted.{LineToSum, SumsOf, PartOf}
+use Rattle.compose.specs.Adjusted.{LineToSum, SumsOf}
 use Rattle.compose.specs.declared.adjustment.Sums.{Sums}
+use Rattle.compose.proofs.GapSums.{plus-assoc, plus-nothing, nothing-plus, nothing-yet, at-most-more, at-most-255}
 use Rattle.compose.proofs.RunWalk.{gap-is}
 use Rattle.compose.proofs.Limits.{unit-advance, gap-limits}
 use Rattle.compose.proofs.Stretches.{line-more, line-last}
-
--- sums of gaps ---------------------------------------------------------------------------------------------------
-
-pub plus-assoc : (f g h : Gap) → plus (plus f g) h ≡ plus f (plus g h)
-plus-assoc f g h = simp add-assoc
-
-pub plus-nothing : (g : Gap) → plus g nothing ≡ g
-plus-nothing g = simp add-zero
-
-pub nothing-plus : (g : Gap) → plus nothing g ≡ g
-nothing-plus g = simp zero-add
-
--- some of the gaps give and take no more than all
-pub part-of : (s t c : Gap) → plus s t ≡ c → PartOf s c
-part-of s t c e =
-    record {
-      shrink₁ = omega (arith, ap (λ g. g .shrink₁) e);
-      shrink₂ = omega (arith, ap (λ g. g .shrink₂) e);
-      stretch₁ = omega (arith, ap (λ g. g .stretch₁) e);
-      stretch₂ = omega (arith, ap (λ g. g .stretch₂) e);
-    }
-
--- with one gap more
-pub at-most-more : {n m : ℕ} {s g : Gap} → AtMost n s → AtMost 1 g → n < m → AtMost m (plus s g)
-at-most-more a b h =
-    record {
-      space = omega (arith, a .space, b .space);
-      shrink₁ = omega (arith, a .shrink₁, b .shrink₁);
-      shrink₂ = omega (arith, a .shrink₂, b .shrink₂);
-      stretch₂ = omega (arith, a .stretch₂, b .stretch₂);
-    }
-
-pub at-most-255 : {n : ℕ} {g : Gap} → AtMost n g → n ≤ 255 → AtMost 255 g
-at-most-255 a h =
-    record {
-      space = omega (arith, a .space);
-      shrink₁ = omega (arith, a .shrink₁);
-      shrink₂ = omega (arith, a .shrink₂);
-      stretch₂ = omega (arith, a .stretch₂);
-    }
 
 -- a line's units -------------------------------------------------------------------------------------------------
 
@@ -95,11 +56,6 @@ pub record Summing (ws : List ℕ) (i j advances total last next k : ℕ) : Type
   pub all-gaps : plus (unpacked total) (totals (unitAt ws last) (lineAt ws last j .rest)) ≡ gapsOf (lineAt ws i j)
   pub advances-limit : advances ≤ 128000 * (last + 1)
   pub limit : AtMost last (unpacked total)
-
--- no gap yet
-pub nothing-yet : unpacked 0 ≡ nothing
-unfolding unpacked
-nothing-yet = refl
 
 module _ {ws us gs : List ℕ} {i j : ℕ} (p : LineToSum ws us gs i j) where
   tabled : Tabled ws us gs

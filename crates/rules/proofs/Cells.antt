@@ -15,31 +15,8 @@ use Rattle.rules.specs.Space.{ruleOf, spaceBy, spaceOf}
 use Rattle.rules.specs.Gaps.{Flexibility, early, late, rigid, flexibility, gapBy}
 use Rattle.rules.specs.Spacing.{Entry, solid, entries, named, gapSet, eighths, stage, sameSpace, agrees, cellOf}
 use Rattle.rules.specs.Spacing.{spacingTable, cellIn}
-use Rattle.rules.proofs.Facts.{tested, true-false}
-
--- a test over a list of numbers --------------------------------------------------------------------------------------
-
-abbrev allOf : (ℕ → Bool) → List ℕ → Bool
-allOf t [] = true
-allOf t (k ∷ ks) = t k && allOf t ks
-
-all-at : (t : ℕ → Bool) (ks : List ℕ) → allOf t ks ≡ true → (c : ℕ) → isIn c ks ≡ true → t c ≡ true
-all-at t [] h c e = absurd (true-false (sym e))
-all-at t (k ∷ ks) h c e =
-    let both = and-eq-true-iff (t k) (allOf t ks) .0 h in
-    elim (tested (eqb c k)) [
-      | inl q ↦ rw (eqb-true c k q) (both .0)
-      | inr q ↦ all-at t ks (both .1) c (rw q at e)
-    ]
-
-map-at : {A : Type 0} (g : ℕ → A) (d : A) (ks : List ℕ) (c : ℕ) → isIn c ks ≡ true →
-    getD (map g ks) (placeIn c ks) d ≡ g c
-map-at g d [] c e = absurd (true-false (sym e))
-map-at g d (k ∷ ks) c e =
-    elim (tested (eqb c k)) [
-      | inl q ↦ rw (q, eqb-true c k q)
-      | inr q ↦ rw q (map-at g d ks c (rw q at e))
-    ]
+use Rattle.rules.proofs.Facts.{tested}
+use Rattle.rules.proofs.Table.{allOf, all-at, map-at}
 
 -- the test -----------------------------------------------------------------------------------------------------------
 
@@ -139,3 +116,7 @@ module _ (L R : ℕ) (l : classOk L ≡ true) (r : classOk R ≡ true) where
   pub cell-gap : (a b w : ℕ) →
       gapSet (named (cellOf L R)) a b w ≡ gapBy (flexibility (ruleOf L R) L) (spaceOf L R) a b w
   cell-gap a b w = agrees-gap (named (cellOf L R)) L R cell-agrees a b w
+
+  pub table-gap : (a b w : ℕ) →
+      gapSet (named (cellIn spacingTable L R)) a b w ≡ gapBy (flexibility (ruleOf L R) L) (spaceOf L R) a b w
+  table-gap a b w = rw cell-at (cell-gap a b w)

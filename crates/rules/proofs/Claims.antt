@@ -8,16 +8,19 @@ use mathlib.Core.Logic.{_↔_}
 use mathlib.Core.Option.{none, some}
 use lib.ListN.{length, getD}
 use Rattle.rules.specs.Basics.{Run, whole}
-use Rattle.rules.specs.Records.{Rec}
+use Rattle.rules.specs.Records.{Rec, classOk}
+use Rattle.rules.specs.Space.{ruleOf, spaceOf}
 use Rattle.rules.specs.Groups.{TextUnit, sameGroup, units, advance, groupAdvance, baseOffsets, rubyOffset}
 use Rattle.rules.specs.Sides.{Side, arabicDigit, forbidden}
-use Rattle.rules.specs.Gaps.{Gap}
+use Rattle.rules.specs.Gaps.{flexibility, Gap, gapBy}
 use Rattle.rules.specs.Breaks.{bound, width, runs, noBreaking, breaking}
-use Rattle.rules.specs.Adjustment.{amountsOf, totals, natural, lineOf}
+use Rattle.rules.specs.Adjustment.{plus, amountsOf, totals, natural, lineOf}
 use Rattle.rules.specs.Refusals.{judged}
 use Rattle.rules.specs.Meanings.{All, lastOf, Maximal, Boundary, OneUnit, RubyPlaced, Choice, Fits, Longest}
 use Rattle.rules.specs.Meanings.{FirstWide, GapAt, WithinLimits, FirstStageFull, Apart}
 use Rattle.rules.specs.Percent.{digitAndPostfix}
+use Rattle.rules.specs.Spacing.{named, gapSet, spacingTable, cellIn}
+use Rattle.rules.specs.Packed.{packed, unpacked, Packs, AtMost}
 use Rattle.rules.proofs.Facts.{some-none}
 use Rattle.rules.proofs.Worked.{right}
 use Rattle.rules.proofs.Cases.{rows, cases-hold}
@@ -29,11 +32,15 @@ use Rattle.rules.proofs.Breaking.{breaking-choice, lines-fit}
 use Rattle.rules.proofs.LongestLines.{lines-longest}
 use Rattle.rules.proofs.Unique.{only-lines}
 use Rattle.rules.proofs.Percent.{digit-decides, lines-keep-postfix}
+use Rattle.rules.proofs.Cells.{table-gap}
+use Rattle.rules.proofs.Packed.{packed-plus, unpacked-packed}
 use Rattle.rules.proofs.Ends.{ends-within, wide-ends, flush-ends, short-ends, final-ends}
 use Rattle.rules.proofs.GapLimits.{within-limits}
 use Rattle.rules.proofs.GapLimits.{first-stage-full}
 use Rattle.rules.proofs.GroupRows.{base-within, ruby-within}
 use Rattle.rules.proofs.RubyPlaces.{accepted-placed}
+use Rattle.rules.proofs.spacing.spacing_table.Statement as spacing-table-contract
+use Rattle.rules.proofs.spacing.spacing_table.Met as spacing-table-met
 use Rattle.rules.proofs.groups.ruby_place.Statement as ruby-place-contract
 use Rattle.rules.proofs.groups.ruby_place.Met as ruby-place-met
 
@@ -115,6 +122,24 @@ digit-holds-exactly l r e f = digit-decides l r e f
 -- so no line ends between a digit and its postfix
 pub postfix-kept : (m x : ℕ) (us : List TextUnit) → Apart digitAndPostfix (breaking m x (runs us))
 postfix-kept m x us = lines-keep-postfix m x us
+
+-- Spaces -----------------------------------------------------------------------------------------------------------
+
+-- request 02: the entry of the spacing table between two classes sets the gap that the rules set, whatever the sizes
+pub table-agrees : (L R : ℕ) → classOk L ≡ true → classOk R ≡ true → (l r w : ℕ) →
+    gapSet (named (cellIn spacingTable L R)) l r w ≡ gapBy (flexibility (ruleOf L R) L) (spaceOf L R) l r w
+table-agrees L R h k l r w = table-gap L R h k l r w
+
+-- and the program's table is that one
+pub spacing-table-meets : {M : Type 1} → spacing-table-contract.statement M
+spacing-table-meets = spacing-table-met.met
+
+-- gaps in one word add up by one addition, and a word tells the gap, or the sum of up to 255, that it holds
+pub one-addition : (g h : Gap) → Packs g → Packs h → packed g + packed h ≡ packed (plus g h)
+one-addition g h p q = packed-plus g h p q
+
+pub read-back : (g : Gap) → Packs g → AtMost 255 g → unpacked (packed g) ≡ g
+read-back g p b = unpacked-packed g p b
 
 -- Adjustment -------------------------------------------------------------------------------------------------------
 -- of a line l that fits the measure m from x on, final or not

@@ -29,6 +29,7 @@ pub mod Bounds
 pub mod Packed
 pub mod Cells
 pub mod Entries
+pub mod Weights
 pub mod GapWords
 pub mod Ties
 pub mod Rows

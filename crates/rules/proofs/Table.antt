@@ -1,11 +1,18 @@
 -- A table's rule, proved once: where a table is the list of a definition's values, as the checker sees by computing,
--- each entry is the definition's value at its place.
+-- each entry is the definition's value at its place. And a test over a list, which holds of each of its numbers.
 -- Assumes nothing.
-use mathlib.Core.Path.{_≡_}
+use mathlib.Core.Path.{_≡_, sym}
 use Prim.Native.Nat.{ℕ, zero, suc, _+_, _<_}
 use native.Mathlib.Nat.{add-zero, zero-add, add-suc, suc-add, le-of-suc-le-suc, not-suc-le-zero}
+use mathlib.Core.Bool.{Bool, true, _&&_, and-eq-true-iff}
+use mathlib.Core.List.{List, [], _∷_, map}
+use mathlib.Core.Logic.{inl, inr}
+use lib.Dec.{eqb}
 use lib.ListN.{getD}
-use Rattle.rules.specs.Basics.{tabled}
+use borrow.Author.Tests.{eqb-true}
+use Rattle.rules.specs.Basics.{isIn, tabled}
+use Rattle.rules.specs.Records.{placeIn}
+use Rattle.rules.proofs.Facts.{tested, true-false}
 
 tabled-from : {A : Type 0} (g : ℕ → A) (d : A) (i n k : ℕ) → k < n → getD (tabled g i n) k d ≡ g (i + k)
 tabled-from g d i zero k h = absurd (not-suc-le-zero h)
@@ -14,3 +21,27 @@ tabled-from g d i (suc n) (suc k) h = rw (add-suc, ← suc-add) (tabled-from g d
 
 pub tabled-at : {A : Type 0} (g : ℕ → A) (d : A) (n k : ℕ) → k < n → getD (tabled g 0 n) k d ≡ g k
 tabled-at g d n k h = rw zero-add at (tabled-from g d 0 n k h)
+
+-- a test that holds of each number of a list
+abbrev pub allOf : (ℕ → Bool) → List ℕ → Bool
+allOf t [] = true
+allOf t (k ∷ ks) = t k && allOf t ks
+
+pub all-at : (t : ℕ → Bool) (ks : List ℕ) → allOf t ks ≡ true → (c : ℕ) → isIn c ks ≡ true → t c ≡ true
+all-at t [] h c e = absurd (true-false (sym e))
+all-at t (k ∷ ks) h c e =
+    let both = and-eq-true-iff (t k) (allOf t ks) .0 h in
+    elim (tested (eqb c k)) [
+      | inl q ↦ rw (eqb-true c k q) (both .0)
+      | inr q ↦ all-at t ks (both .1) c (rw q at e)
+    ]
+
+-- what a definition has for a number of a list stands at the number's place
+pub map-at : {A : Type 0} (g : ℕ → A) (d : A) (ks : List ℕ) (c : ℕ) → isIn c ks ≡ true →
+    getD (map g ks) (placeIn c ks) d ≡ g c
+map-at g d [] c e = absurd (true-false (sym e))
+map-at g d (k ∷ ks) c e =
+    elim (tested (eqb c k)) [
+      | inl q ↦ rw (q, eqb-true c k q)
+      | inr q ↦ rw q (map-at g d ks c (rw q at e))
+    ]

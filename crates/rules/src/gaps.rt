@@ -19,12 +19,14 @@ pub struct Gap {
 }
 
 // A gap in one word: its least, then what shrink stage 1 and shrink stage 2 take, then its weight at stretch stage 2.
-// One of each of the last three:
+// One of each of the last three; the field of a shrink stage holds numbers below STAGE.
+const STAGE: u64 = 0x40000;
+
 const SHRINK1: u64 = 0x100000;
 
-const SHRINK2: u64 = 0x4000000000;
+const SHRINK2: u64 = SHRINK1 * STAGE;
 
-const WEIGHT: u64 = 0x100000000000000;
+const WEIGHT: u64 = SHRINK2 * STAGE;
 
 // What a size of 8 has of a quarter and of a half that do not give way, of a half that shrinks at stage 1, and of a
 // quarter that shrinks at stage 2.
@@ -117,15 +119,15 @@ pub fn least_of(gap: u64) -> u32
 pub fn unpack(gap: u64) -> Gap
     ensures { λ g. ⌜ gapFrom g ≡ unpacked gap ⌝ }
 {
-    let least = (gap % 0x100000) as u32;
-    let shrink1 = (gap / 0x100000 % 0x40000) as u32;
-    let shrink2 = (gap / 0x100000 / 0x40000 % 0x40000) as u32;
+    let least = (gap % SHRINK1) as u32;
+    let shrink1 = (gap / SHRINK1 % STAGE) as u32;
+    let shrink2 = (gap / SHRINK1 / STAGE % STAGE) as u32;
     Gap {
         space: least + shrink1 + shrink2,
         shrink1: shrink1,
         shrink2: shrink2,
         stretch1: 2 * shrink2,
-        stretch2: (gap / 0x100000 / 0x40000 / 0x40000) as u32,
+        stretch2: (gap / SHRINK1 / STAGE / STAGE) as u32,
     }
 }
 

@@ -10,7 +10,8 @@ use Rattle.rules.specs.Packed.{unpacked}
 use Rattle.rules.specs.Values.{gapFrom}
 use Rattle.compose.specs.Tables.{gapIn}
 use Rattle.compose.specs.Adjusted.{amountsFrom, floors, placeAfter, Movable}
-use Rattle.compose.proofs.Sums.{advance-limit, nothing-yet}
+use Rattle.compose.proofs.GapSums.{nothing-yet}
+use Rattle.compose.proofs.Sums.{advance-limit}
 use Rattle.compose.proofs.LinePlaces.{LinePlacing, line-start, line-done, line-more}
 use Rattle.compose.proofs.LinePlaces.{turn-length, turn-unit, turn-longer, turn-sums, turn-part, turn-movable}
 use Rattle.compose.proofs.places.place_line.Statement.{statement}

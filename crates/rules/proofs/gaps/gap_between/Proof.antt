@@ -12,8 +12,8 @@ use Rattle.rules.specs.Gaps.{weight, gapOf}
 use Rattle.rules.specs.Packed.{unpacked, Taken}
 use Rattle.rules.specs.Values.{sideOf, SideOk}
 use Rattle.rules.proofs.Cells.{cell-small}
-use Rattle.rules.proofs.GapWords.{cell, size-most, weight-tied, weight-dot, weight-free}
-use Rattle.rules.proofs.GapWords.{gap-word, solid-no-dot, solid-word}
+use Rattle.rules.proofs.Weights.{size-most, weight-tied, weight-dot, weight-free}
+use Rattle.rules.proofs.GapWords.{cell, gap-word, solid-no-dot, solid-word}
 use Rattle.rules.proofs.gaps.gap_between.Statement.{statement}
 use Rattle.rules.proofs.gaps.gap_between.Tie as tie
 

@@ -1,0 +1,52 @@
+-- Sums of gaps: how they add up, what they come to, and those of no gap. Assumes nothing.
+use mathlib.Core.Path.{_≡_, refl, ap}
+use Prim.Native.Nat.{ℕ, _≤_, _<_}
+use native.Mathlib.Omega.{arith}
+use native.Mathlib.Nat.{add-assoc, add-zero, zero-add}
+use Rattle.rules.specs.Gaps.{Gap}
+use Rattle.rules.specs.Adjustment.{plus, nothing}
+use Rattle.rules.specs.Packed.{unpacked, AtMost}
+use Rattle.compose.specs.Adjusted.{PartOf}
+
+pub plus-assoc : (f g h : Gap) → plus (plus f g) h ≡ plus f (plus g h)
+plus-assoc f g h = simp add-assoc
+
+pub plus-nothing : (g : Gap) → plus g nothing ≡ g
+plus-nothing g = simp add-zero
+
+pub nothing-plus : (g : Gap) → plus nothing g ≡ g
+nothing-plus g = simp zero-add
+
+-- some of the gaps give and take no more than all
+pub part-of : (s t c : Gap) → plus s t ≡ c → PartOf s c
+part-of s t c e =
+    record {
+      shrink₁ = omega (arith, ap (λ g. g .shrink₁) e);
+      shrink₂ = omega (arith, ap (λ g. g .shrink₂) e);
+      stretch₁ = omega (arith, ap (λ g. g .stretch₁) e);
+      stretch₂ = omega (arith, ap (λ g. g .stretch₂) e);
+    }
+
+-- with one gap more
+pub at-most-more : {n m : ℕ} {s g : Gap} → AtMost n s → AtMost 1 g → n < m → AtMost m (plus s g)
+at-most-more a b h =
+    record {
+      space = omega (arith, a .space, b .space);
+      shrink₁ = omega (arith, a .shrink₁, b .shrink₁);
+      shrink₂ = omega (arith, a .shrink₂, b .shrink₂);
+      stretch₂ = omega (arith, a .stretch₂, b .stretch₂);
+    }
+
+pub at-most-255 : {n : ℕ} {g : Gap} → AtMost n g → n ≤ 255 → AtMost 255 g
+at-most-255 a h =
+    record {
+      space = omega (arith, a .space);
+      shrink₁ = omega (arith, a .shrink₁);
+      shrink₂ = omega (arith, a .shrink₂);
+      stretch₂ = omega (arith, a .stretch₂);
+    }
+
+-- no gap yet
+pub nothing-yet : unpacked 0 ≡ nothing
+unfolding unpacked
+nothing-yet = refl
