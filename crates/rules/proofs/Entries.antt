@@ -146,7 +146,8 @@ entry-law n h = each-at EntryLaw entries laws n h
 
 -- what the words have for each entry
 words-from : (es : List Entry) (n : ℕ) → n < length es →
-    getD (map (λ e. leftWord e ∷ rightWord e ∷ []) es) n [] ≡ leftWord (getD es n solid) ∷ rightWord (getD es n solid) ∷ []
+    getD (map (λ e. leftWord e ∷ rightWord e ∷ []) es) n []
+    ≡ leftWord (getD es n solid) ∷ rightWord (getD es n solid) ∷ []
 words-from [] n h = let z : ⊥ = omega arith in absurd z
 words-from (e ∷ es) zero h = refl
 words-from (e ∷ es) (suc n) h = words-from es n (omega arith)

@@ -1,11 +1,11 @@
 -- Document 02, request 02: a gap in one word, so that one addition sums its space and all its capacities.
 --
---   field        least, 20 bits wide, from the right; shrink stage 1 and shrink stage 2, 18 bits each; stretch stage 2,
---                8 bits
+--   field        from the right: least, 20 bits wide; shrink stage 1 and shrink stage 2, 18 bits each; stretch stage
+--                2, 8 bits
 --   packed       a gap as a word; the space is least and both shrinks, stretch stage 1 twice shrink stage 2
 --   unpacked     the gap that a word holds
---   at most n    what n gaps add up to: sizes go to 4,000, and to 8,000 where a gap shrinks at stage 2. The sums of 255
---                gaps stay in their fields
+--   at most n    what n gaps add up to: sizes go to 4,000, and to 8,000 where a gap shrinks at stage 2. The sums of
+--                255 gaps stay in their fields
 --   words        what a size of 8 has of an entry, on the left and on the right
 --
 -- Assumes nothing.

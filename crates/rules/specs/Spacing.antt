@@ -1,6 +1,6 @@
 -- Document 02, request 02: the spacing table, eighteen rows of eighteen cells.
 --
---   row, column  the left and the right class, in the order of `classes`; source document 004 has them as before, 前, and
+--   row, column  the left and the right class, in the order of `classes`; in source document 004 before, 前, and
 --                after, 後ろ
 --   entry        what a cell names: the fractions of the left and of the right size that the space is, and how the gap
 --                gives way
@@ -66,8 +66,8 @@ stage late = 2
 abbrev pub sameSpace : Space → Space → Bool
 sameSpace p q = eqb (eighths (p .left)) (eighths (q .left)) && eqb (eighths (p .right)) (eighths (q .right))
 
--- an entry agrees with the rules between two classes: it is their space, and where that is not nothing, it gives way as
--- they say
+-- an entry agrees with the rules between two classes: it is their space, and where that is not nothing, it gives way
+-- as they say
 unfoldable pub agrees : Entry → ℕ → ℕ → Bool
 agrees e L R =
     sameSpace (e .space) (spaceOf L R)

@@ -7,8 +7,8 @@ ghost use Rattle.rules.specs.Spacing.{cellOf, spacingTable};
 ghost use Rattle.rules.specs.Values.{classTable};
 use crate::records::wide;
 
-// What a cell names, by the letter of the rule that sets it, and in source document 004's words: a half or a quarter of
-// the size before the gap, `be`, or after it, `af`.
+// What a cell names, by the letter of the rule that sets it and in source document 004's words: a half or a quarter of
+// the size before the gap, be, or after it, af.
 // Nothing, 無印: rules e and k, and f, g and h where they set 0.
 const O: u8 = 0;
 

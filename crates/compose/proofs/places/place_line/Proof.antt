@@ -92,8 +92,8 @@ sums-are : (c : tie.After-added Inv-loop μ-loop) →
     ≡ plus (unpacked (head (c .before .before .before) .loop .sums))
     (gapIn (now (start (head (c .before .before .before)) .args .gaps)) (head (c .before .before .before) .loop .a))
 sums-are c =
-    c .added .ensures
-    ∙ ap (λ w. plus (unpacked (head (c .before .before .before) .loop .sums)) (unpacked w)) (c .before .gap-at .ensures)
+    let s = unpacked (head (c .before .before .before) .loop .sums) in
+    c .added .ensures ∙ ap (λ w. plus s (unpacked w)) (c .before .gap-at .ensures)
 
 unpack-requires : tie.Need-unpack-requires Inv-loop μ-loop
 unpack-requires c κs = search needs

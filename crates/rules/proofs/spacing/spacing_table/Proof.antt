@@ -1,5 +1,5 @@
--- `rules::spacing::spacing_table` meets its contract: that each of the 324 cells is the rules' own is computed. Assumes
--- nothing.
+-- `rules::spacing::spacing_table` meets its contract: that each of the 324 cells is the rules' own is computed.
+-- Assumes nothing.
 use mathlib.Core.Path.{refl}
 use Rattle.rules.specs.Records.{classes}
 use Rattle.rules.specs.Space.{ruleOf, spaceBy, spaceOf}
