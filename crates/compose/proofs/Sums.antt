@@ -7,7 +7,6 @@ use mathlib.Core.List.{List, [], _∷_}
 use lib.ListN.{getD}
 use Rattle.rules.specs.Basics.{whole}
 use Rattle.rules.specs.Groups.{advance}
-use Rattle.rules.specs.Gaps.{Gap}
 use Rattle.rules.specs.Breaks.{gap}
 use Rattle.rules.specs.Adjustment.{plus, totals, gapsOf, unitAdvances}
 use Rattle.rules.specs.Values.{gapFrom}

@@ -13,6 +13,7 @@ ghost use Rattle.compose.specs.Tables.{UnitTable, GapTable};
 ghost use Rattle.compose.specs.Tables.{RowOf, RunsAfter, RunTable};
 use crate::checks::record_at;
 use crate::checks::same_group;
+use rules::Entry;
 use rules::Side;
 use rules::break_forbidden;
 use rules::class_table;
@@ -95,7 +96,7 @@ fn row_at(
     runs: &[u32; 768],
     i: usize,
     classes: &[u8; 28],
-    spacing: &[[u8; 18]; 18],
+    spacing: &[[Entry; 18]; 18],
     words: &[[u64; 2]; 10],
 ) -> Row
     requires { ⌜ RunsAfter (now ws) (now units) (now runs) i ⌝ }

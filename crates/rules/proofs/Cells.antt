@@ -2,19 +2,19 @@
 -- the rule at each pair of classes. Assumes nothing.
 use mathlib.Core.Path.{_≡_, refl, ap, sym, _∙_}
 use Prim.Native.Nat.{ℕ, zero, suc, _<_}
-use mathlib.Core.Bool.{Bool, true, false, _&&_, _||_, and-eq-true-iff}
-use mathlib.Core.List.{List, [], _∷_, map}
+use mathlib.Core.Bool.{Bool, true, _&&_, and-eq-true-iff}
+use mathlib.Core.List.{[], map}
 use mathlib.Core.Logic.{inl, inr}
 use lib.Dec.{ltb, eqb}
 use lib.ListN.{getD}
 use borrow.Author.Tests.{ltb-true, eqb-true}
-use Rattle.rules.specs.Basics.{isIn}
 use Rattle.rules.specs.Records.{classes, classOk, placeIn, rowOf}
 use Rattle.rules.specs.Space.{Fraction, no-part, eighth, quarter, half, Space, spaced, measured}
-use Rattle.rules.specs.Space.{ruleOf, spaceBy, spaceOf}
+use Rattle.rules.specs.Space.{ruleOf, spaceOf}
 use Rattle.rules.specs.Gaps.{Flexibility, early, late, rigid, flexibility, gapBy}
-use Rattle.rules.specs.Spacing.{Entry, solid, entries, named, gapSet, eighths, stage, sameSpace, agrees, cellOf}
+use Rattle.rules.specs.Spacing.{Entry, solid, named, gapSet, eighths, stage, sameSpace, agrees, cellOf}
 use Rattle.rules.specs.Spacing.{spacingTable, cellIn}
+use Rattle.rules.specs.Computed.{computed}
 use Rattle.rules.proofs.Facts.{tested}
 use Rattle.rules.proofs.Table.{allOf, all-at, map-at}
 
@@ -25,7 +25,7 @@ abbrev right : ℕ → ℕ → Bool
 right L R = ltb (cellOf L R) 10 && agrees (named (cellOf L R)) L R
 
 cells-agree : allOf (λ L. allOf (λ R. right L R) classes) classes ≡ true
-unfolding classes cellOf entries agrees spaceOf spaceBy ruleOf flexibility
+unfolding computed
 cells-agree = refl
 
 -- what it says of two classes ----------------------------------------------------------------------------------------

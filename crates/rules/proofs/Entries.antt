@@ -1,6 +1,6 @@
 -- The ten entries of the spacing table: what each sets is linear in eighths of the sizes, and within its bounds.
 -- Assumes nothing.
-use mathlib.Core.Path.{_≡_, refl, ap, sym, _∙_}
+use mathlib.Core.Path.{_≡_, refl, ap, _∙_}
 use Prim.Native.Nat.{ℕ, zero, suc, _+_, _*_, _≤_, _<_}
 use native.Mathlib.Omega.{arith}
 use native.Mathlib.Nat.{add-zero, zero-add}
@@ -9,12 +9,12 @@ use lib.ListN.{length, getD}
 use Rattle.rules.specs.Space.{Fraction, no-part, eighth, quarter, half, part, measured}
 use Rattle.rules.specs.Gaps.{Flexibility, early, late, rigid, gapBy}
 use Rattle.rules.specs.Spacing.{Entry, entry, solid, entries, named, gapSet}
-use Rattle.rules.specs.Packed.{packed, Packs, AtMost, leftWord, rightWord, entryWords}
+use Rattle.rules.specs.Packed.{packed, Packs, AtMost, leftWord, rightWord, entryWords, weighing}
 
 -- the entry's gap between sizes of a and b eighths, with weight w
 pub record EntryLaw (e : Entry) : Type 0 where
   pub word : (a b w : ℕ) →
-      packed (gapSet e (8 * a) (8 * b) w) ≡ a * leftWord e + b * rightWord e + 72057594037927936 * w
+      packed (gapSet e (8 * a) (8 * b) w) ≡ a * leftWord e + b * rightWord e + weighing w
   pub small : (leftWord e ≤ 549755813888) × (rightWord e ≤ 549755813888)
   pub packs : (a b w : ℕ) → Packs (gapSet e (8 * a) (8 * b) w)
   pub at-most : (l r w : ℕ) → l ≤ 4000 → r ≤ 4000 → w ≤ 1 → AtMost 1 (gapSet e l r w)

@@ -9,7 +9,7 @@ use Rattle.rules.specs.Space.{measured}
 use Rattle.rules.specs.Sides.{Side}
 use Rattle.rules.specs.Gaps.{Gap, gapBy, weight, gapOf}
 use Rattle.rules.specs.Spacing.{entries, named, gapSet, cellOf}
-use Rattle.rules.specs.Packed.{packed, unpacked, Packs, AtMost, leftWord, rightWord}
+use Rattle.rules.specs.Packed.{packed, unpacked, Packs, AtMost, leftWord, rightWord, weighing}
 use Rattle.rules.specs.Values.{SideOk}
 use Rattle.rules.proofs.Packed.{unpacked-packed}
 use Rattle.rules.proofs.Cells.{cell-small, cell-gap, cell-agrees}
@@ -64,7 +64,7 @@ module _ (L R : Side) (l : SideOk L) (r : SideOk R) where
   pub gap-word :
       unpacked
       (L .size / 8 * leftWord (named (cell L R)) + R .size / 8 * rightWord (named (cell L R))
-      + 72057594037927936 * weight L R)
+      + weighing (weight L R))
       ≡ gapOf L R
   gap-word =
       ap unpacked (sym (law .word (L .size / 8) (R .size / 8) (weight L R)) ∙ ap packed (sym in-eighths))
@@ -78,10 +78,10 @@ module _ (L R : Side) (l : SideOk L) (r : SideOk R) where
         solid-after (L .class) (R .class)
         (rw z at (cell-agrees (L .class) (R .class) (l .class) (r .class)))
 
-    pub solid-word : unpacked (72057594037927936 * weight L R) ≡ gapOf L R
+    pub solid-word : unpacked (weighing (weight L R)) ≡ gapOf L R
     unfolding entries packed gapBy measured
     solid-word =
-        let x = 72057594037927936 * weight L R in
+        let x = weighing (weight L R) in
         let left : leftWord (named (cell L R)) ≡ 0 = ap (λ k. leftWord (named k)) z in
         let right : rightWord (named (cell L R)) ≡ 0 = ap (λ k. rightWord (named k)) z in
         let e : L .size / 8 * leftWord (named (cell L R)) + R .size / 8 * rightWord (named (cell L R)) + x ≡ x =

@@ -15,6 +15,8 @@ use Rattle.rules.specs.Sheet.{placesOf, placeWords, lineWords, slotWords
 use Rattle.rules.specs.Refusals.{judged, sound, splice, slotRows, editSlot, callRows, called, onSlot, edit}
 use Rattle.rules.specs.Refusals.{readRows, readNumber, readStart, readLength, readWords}
 use Rattle.rules.specs.Refusals.{badSlot, freshSlots, setUpRows, setUpAnswer, setUp}
+use Rattle.rules.specs.Spacing.{entries, agrees, cellOf, spacingTable}
+use Rattle.rules.specs.Packed.{packed, unpacked, entryWords}
 
 unfoldable pub computed : Unit {0}
 unfolding joined cut zeros codeOk classes classOk rowOf sizeOk advanceKind advanceOk groupOk recOk badRecord
@@ -23,5 +25,5 @@ unfolding joined cut zeros codeOk classes classOk rowOf sizeOk advanceKind advan
     gapOf smallest runs wideRun noBreaking filled breaking totals unitAdvances amounts amountsOf placed ending
     kindOf lineOf linesOf compose placesOf placeWords lineWords slotWords judged sound splice slotRows editSlot
     callRows called onSlot edit readRows readNumber readStart readLength readWords badSlot freshSlots setUpRows
-    setUpAnswer setUp
+    setUpAnswer setUp entries agrees cellOf spacingTable packed unpacked entryWords
 computed = tt

@@ -15,8 +15,13 @@ use mathlib.Core.List.{List, [], _∷_, map}
 use Rattle.rules.specs.Gaps.{Gap, least}
 use Rattle.rules.specs.Spacing.{Entry, entries, named, gapSet}
 
+-- 1,048,576 is 2^20 and 262,144 is 2^18, so the weight's field starts at 2^56
 unfoldable pub packed : Gap → ℕ
 packed g = least g + 1048576 * (g .shrink₁ + 262144 * (g .shrink₂ + 262144 * g .stretch₂))
+
+-- the field of a weight
+abbrev pub weighing : ℕ → ℕ
+weighing w = 72057594037927936 * w
 
 -- the least that the gap of a word can be
 abbrev pub leastIn : ℕ → ℕ

@@ -7,9 +7,9 @@
 --   cell         an entry's number, from 0
 --
 -- Rules a to k stay the definition: a cell has the first of the ten entries that agrees with them. No cell is without
--- one: `cells-agree` of proofs/Spacing.antt is computed over all 324. Assumes nothing.
-use Prim.Native.Nat.{ℕ, zero, suc, _+_, _<_}
-use mathlib.Core.Bool.{Bool, true, false, cond, _&&_, _||_}
+-- one: `cells-agree` of proofs/Cells.antt is computed over all 324. Assumes nothing.
+use Prim.Native.Nat.{ℕ, suc}
+use mathlib.Core.Bool.{Bool, cond, _&&_, _||_}
 use mathlib.Core.List.{List, [], _∷_, map}
 use lib.Dec.{eqb}
 use lib.ListN.{getD}

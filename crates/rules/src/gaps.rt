@@ -7,6 +7,7 @@ ghost use Rattle.rules.specs.Adjustment.{plus};
 ghost use Rattle.rules.specs.Packed.{leastIn, unpacked, AtMost, entryWords, Taken};
 ghost use Rattle.rules.specs.Values.{sideOf, gapFrom, SideOk, Laid};
 use crate::groups::Side;
+use crate::spacing::Entry;
 use crate::spacing::cell_between;
 
 // The space between two units, and its capacity at each stage of adjustment.
@@ -82,7 +83,7 @@ pub fn gap_between(
     r: Side,
     tied: bool,
     classes: &[u8; 28],
-    spacing: &[[u8; 18]; 18],
+    spacing: &[[Entry; 18]; 18],
     words: &[[u64; 2]; 10],
 ) -> u64
     requires { ⌜ tied ≡ forbidden (sideOf l) (sideOf r) ⌝ }
@@ -102,6 +103,7 @@ pub fn gap_between(
     if tied {
         return gap;
     }
+    // no weight beside class 5; before it every break is forbidden
     if l.class == 5 {
         return gap;
     }

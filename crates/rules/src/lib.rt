@@ -25,4 +25,5 @@ pub use records::class_table;
 pub use records::record_ok;
 pub use sheet::limits_ok;
 pub use sheet::slot_limits_ok;
+pub use spacing::Entry;
 pub use spacing::spacing_table;

@@ -7,40 +7,43 @@ ghost use Rattle.rules.specs.Spacing.{cellOf, spacingTable};
 ghost use Rattle.rules.specs.Values.{classTable};
 use crate::records::wide;
 
-// What a cell names, by the letter of the rule that sets it and in source document 004's words: a half or a quarter of
-// the size before the gap, be, or after it, af.
+// What a cell names, by its number.
+pub type Entry = u8;
+
+// The entries, by the letter of the rule that sets each and in source document 004's words: a half or a quarter
+// of the size before the gap, be, or after it, af.
 // Nothing, 無印: rules e and k, and f, g and h where they set 0.
-const O: u8 = 0;
+const O: Entry = 0;
 
 // 1/4 be + 1/4 af.
-const A: u8 = 1;
+const A: Entry = 1;
 
 // 1/2 be + 1/4 af.
-const B: u8 = 2;
+const B: Entry = 2;
 
 // 1/4 af.
-const C: u8 = 3;
+const C: Entry = 3;
 
 // 1/4 be.
-const D: u8 = 4;
+const D: Entry = 4;
 
 // 1/2 be that shrinks at stage 1: rule f, and rule g after class 7.
-const F: u8 = 5;
+const F: Entry = 5;
 
 // 1/2 be: rule g after class 6.
-const G: u8 = 6;
+const G: Entry = 6;
 
 // 1/2 af that shrinks at stage 1.
-const H: u8 = 7;
+const H: Entry = 7;
 
 // 1/4 af that shrinks at stage 2 and stretches at stage 1.
-const I: u8 = 8;
+const I: Entry = 8;
 
 // 1/4 be that shrinks at stage 2 and stretches at stage 1.
-const J: u8 = 9;
+const J: Entry = 9;
 
 // A row for each class before the gap, a column for each class after it.
-const SPACING: [[u8; 18]; 18] = [
+const SPACING: [[Entry; 18]; 18] = [
     // 1  2  3  4  5  6  7  8  9  10 11 12 13 14 15 16 19 27
     [O, O, O, O, C, O, O, O, O, O, O, O, O, O, O, O, O, O], // 1
     [F, O, F, F, C, O, O, F, F, F, F, F, F, O, F, F, F, F], // 2
@@ -63,7 +66,7 @@ const SPACING: [[u8; 18]; 18] = [
 ];
 
 // The table, for a caller to lay down once and lend to each lookup.
-pub fn spacing_table() -> [[u8; 18]; 18]
+pub fn spacing_table() -> [[Entry; 18]; 18]
     ensures { λ t. ⌜ t ≡ spacingTable ⌝ }
 {
     SPACING
@@ -82,7 +85,7 @@ pub(crate) fn cell_between(
     left: u32,
     right: u32,
     classes: &[u8; 28],
-    spacing: &[[u8; 18]; 18],
+    spacing: &[[Entry; 18]; 18],
 ) -> usize
     requires { ⌜ (classOk left ≡ true) × (classOk right ≡ true) ⌝ }
     requires { ⌜ (now classes ≡ classTable) × (now spacing ≡ spacingTable) ⌝ }

@@ -1,16 +1,14 @@
 -- `rules::gaps::gap_between` meets its contract. Assumes nothing.
 use mathlib.Core.Path.{_≡_, ap, sym, _∙_}
-use Prim.Native.Nat.{ℕ, _+_, _*_, _/_, _<_}
+use Prim.Native.Nat.{ℕ, _+_}
 use native.Mathlib.Omega.{arith}
 use native.Mathlib.Nat.{add-zero}
-use mathlib.Core.Bool.{true, false}
-use lib.Dec.{eqb}
 use borrow.Author.Needs.{needs}
 use borrow.Author.Tests.{ne-eqb}
 use Rattle.rules.specs.Sides.{Side, forbidden}
 use Rattle.rules.specs.Gaps.{weight, gapOf}
-use Rattle.rules.specs.Packed.{unpacked, Taken}
-use Rattle.rules.specs.Values.{sideOf, SideOk}
+use Rattle.rules.specs.Packed.{unpacked, weighing}
+use Rattle.rules.specs.Values.{sideOf}
 use Rattle.rules.proofs.Cells.{cell-small}
 use Rattle.rules.proofs.Weights.{size-most, weight-tied, weight-dot, weight-free}
 use Rattle.rules.proofs.GapWords.{cell, gap-word, solid-no-dot, solid-word}
@@ -33,16 +31,16 @@ entry-is c = c .cell-between .ensures
 
 -- a solid gap is its weight
 solid : (c : tie.Then1) {w : ℕ} → w ≡ weight (left (c .before .before)) (right (c .before .before)) →
-    unpacked (72057594037927936 * w) ≡ gapOf (left (c .before .before)) (right (c .before .before))
+    unpacked (weighing w) ≡ gapOf (left (c .before .before)) (right (c .before .before))
 solid c e =
     let s = c .before .before in
-    ap (λ n. unpacked (72057594037927936 * n)) e
+    ap (λ n. unpacked (weighing n)) e
     ∙ solid-word (left s) (right s) (s .pre .1 .0 .0) (s .pre .1 .0 .1) (sym (entry-is (c .before)) ∙ c .if1 .taken)
 
 -- any other is what the entry takes, and its weight
 spaced : (c : tie.After-taken) {w : ℕ} →
     w ≡ weight (left (c .before .before .before)) (right (c .before .before .before)) →
-    unpacked (c .taken .result + 72057594037927936 * w)
+    unpacked (c .taken .result + weighing w)
     ≡ gapOf (left (c .before .before .before)) (right (c .before .before .before))
 spaced c e =
     let s = c .before .before .before in

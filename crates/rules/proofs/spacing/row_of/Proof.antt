@@ -1,7 +1,6 @@
 -- `rules::spacing::row_of` meets its contract. Assumes nothing.
 use mathlib.Core.Path.{ap, _∙_}
 use Prim.Native.Nat.{_/_}
-use native.Mathlib.Omega.{arith}
 use borrow.Author.Needs.{needs}
 use Rattle.rules.proofs.Rows.{entry-at, entry-row, class-small, row-small}
 use Rattle.rules.proofs.spacing.row_of.Statement.{statement}
