@@ -1,6 +1,6 @@
 -- Sums of gaps: how they add up, what they come to, and those of no gap. Assumes nothing.
 use mathlib.Core.Path.{_≡_, refl, ap}
-use Prim.Native.Nat.{ℕ, _≤_, _<_}
+use Prim.Native.Nat.{ℕ, _<_}
 use native.Mathlib.Omega.{arith}
 use native.Mathlib.Nat.{add-assoc, add-zero, zero-add}
 use Rattle.rules.specs.Gaps.{Gap}
@@ -35,15 +35,6 @@ at-most-more a b h =
       shrink₁ = omega (arith, a .shrink₁, b .shrink₁);
       shrink₂ = omega (arith, a .shrink₂, b .shrink₂);
       stretch₂ = omega (arith, a .stretch₂, b .stretch₂);
-    }
-
-pub at-most-255 : {n : ℕ} {g : Gap} → AtMost n g → n ≤ 255 → AtMost 255 g
-at-most-255 a h =
-    record {
-      space = omega (arith, a .space);
-      shrink₁ = omega (arith, a .shrink₁);
-      shrink₂ = omega (arith, a .shrink₂);
-      stretch₂ = omega (arith, a .stretch₂);
     }
 
 -- no gap yet

@@ -11,7 +11,7 @@ use Rattle.rules.specs.Breaks.{gap}
 use Rattle.rules.specs.Adjustment.{Amounts, plus, nothing, totals, adjusted, placed, ending}
 use Rattle.rules.specs.Sheet.{placesOf}
 use Rattle.rules.specs.Packed.{Packs, AtMost}
-use Rattle.rules.proofs.Packed.{plus-packs}
+use Rattle.rules.proofs.Packed.{plus-packs, at-most-255}
 use Rattle.rules.proofs.GapWords.{GapBounds}
 use Rattle.compose.specs.Paragraph.{size, unitAt, nextAt}
 use Rattle.compose.specs.Tables.{gapIn}
@@ -19,7 +19,7 @@ use Rattle.compose.specs.Lines.{lineAt}
 use Rattle.compose.specs.Adjusted.{PartOf, floors, placeAfter, Movable, unitPlaces, withUnit}
 use Rattle.compose.specs.Adjusted.{UnitToPlace, linePlaces, lineEnd, LineToPlace, LinePlaced}
 use Rattle.compose.proofs.Stretches.{line-last}
-use Rattle.compose.proofs.GapSums.{plus-assoc, nothing-plus, part-of, at-most-more, at-most-255}
+use Rattle.compose.proofs.GapSums.{plus-assoc, nothing-plus, part-of, at-most-more}
 use Rattle.compose.proofs.Sums.{line-first, after-more, gap-row, gap-bounds, advance-limit}
 use Rattle.compose.proofs.Floors.{place-first, place-next, floors-movable, place-limit}
 use Rattle.compose.proofs.Pastes.{Pasting, paste-start, paste-length, paste-more}

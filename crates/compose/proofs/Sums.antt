@@ -11,14 +11,14 @@ use Rattle.rules.specs.Breaks.{gap}
 use Rattle.rules.specs.Adjustment.{plus, totals, gapsOf, unitAdvances}
 use Rattle.rules.specs.Values.{gapFrom}
 use Rattle.rules.specs.Packed.{unpacked, AtMost}
+use Rattle.rules.proofs.Packed.{at-most-255}
 use Rattle.rules.proofs.GapWords.{GapBounds}
 use Rattle.compose.specs.Paragraph.{size, unitAt, nextAt}
 use Rattle.compose.specs.Tables.{gapIn}
 use Rattle.compose.specs.Lines.{lineAt, Tabled}
 use Rattle.compose.specs.Adjusted.{LineToSum, SumsOf}
 use Rattle.compose.specs.declared.adjustment.Sums.{Sums}
-use Rattle.compose.proofs.GapSums.{plus-assoc, plus-nothing, nothing-plus, nothing-yet}
-use Rattle.compose.proofs.GapSums.{at-most-more, at-most-255}
+use Rattle.compose.proofs.GapSums.{plus-assoc, plus-nothing, nothing-plus, nothing-yet, at-most-more}
 use Rattle.compose.proofs.RunWalk.{gap-is}
 use Rattle.compose.proofs.Limits.{unit-advance, gap-limits}
 use Rattle.compose.proofs.Stretches.{line-more, line-last}

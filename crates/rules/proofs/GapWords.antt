@@ -11,19 +11,10 @@ use Rattle.rules.specs.Gaps.{Gap, gapBy, weight, gapOf}
 use Rattle.rules.specs.Spacing.{entries, named, gapSet, cellOf}
 use Rattle.rules.specs.Packed.{packed, unpacked, Packs, AtMost, leftWord, rightWord, weighing}
 use Rattle.rules.specs.Values.{SideOk}
-use Rattle.rules.proofs.Packed.{unpacked-packed}
+use Rattle.rules.proofs.Packed.{at-most-255, unpacked-packed}
 use Rattle.rules.proofs.Cells.{cell-small, cell-gap, cell-agrees}
 use Rattle.rules.proofs.Entries.{EntryLaw, entry-law}
 use Rattle.rules.proofs.Weights.{size-eighths, size-most, weight-most, solid-after}
-
-at-most-more : (g : Gap) → AtMost 1 g → AtMost 255 g
-at-most-more g h =
-    record {
-      space = omega (arith, h .space);
-      shrink₁ = omega (arith, h .shrink₁);
-      shrink₂ = omega (arith, h .shrink₂);
-      stretch₂ = omega (arith, h .stretch₂);
-    }
 
 -- a word holds the gap, and 254 like it
 pub record GapBounds (g : Gap) : Type 0 where
@@ -68,7 +59,7 @@ module _ (L R : Side) (l : SideOk L) (r : SideOk R) where
       ≡ gapOf L R
   gap-word =
       ap unpacked (sym (law .word (L .size / 8) (R .size / 8) (weight L R)) ∙ ap packed (sym in-eighths))
-      ∙ unpacked-packed (gapOf L R) gap-packs (at-most-more (gapOf L R) gap-at-most)
+      ∙ unpacked-packed (gapOf L R) gap-packs (at-most-255 gap-at-most (omega arith))
 
   -- a solid gap is its weight, and class 5 is not on its left
   module _ (z : cell L R ≡ 0) where

@@ -1,6 +1,6 @@
 -- The laws of a gap in one word: it is linear, and its fields are read back within their bounds. Assumes nothing.
 use mathlib.Core.Path.{_≡_, ap, sym, _∙_}
-use Prim.Native.Nat.{ℕ, _+_, _*_, _/_, _%_, _^_, _<_}
+use Prim.Native.Nat.{ℕ, _+_, _*_, _/_, _%_, _^_, _≤_, _<_}
 use native.Mathlib.Omega.{arith}
 use Rattle.rules.specs.Gaps.{Gap, least}
 use Rattle.rules.specs.Adjustment.{plus}
@@ -14,6 +14,16 @@ packed-plus g h p q = omega (arith, p .gives, q .gives)
 pub plus-packs : (g h : Gap) → Packs g → Packs h → Packs (plus g h)
 plus-packs g h p q =
     record { gives = omega (arith, p .gives, q .gives); twice = omega (arith, p .twice, q .twice) }
+
+-- what fewer gaps come to
+pub at-most-255 : {n : ℕ} {g : Gap} → AtMost n g → n ≤ 255 → AtMost 255 g
+at-most-255 a h =
+    record {
+      space = omega (arith, a .space);
+      shrink₁ = omega (arith, a .shrink₁);
+      shrink₂ = omega (arith, a .shrink₂);
+      stretch₂ = omega (arith, a .stretch₂);
+    }
 
 -- a word is that of the gap that it holds
 pub packed-unpacked : (w : ℕ) → packed (unpacked w) ≡ w
