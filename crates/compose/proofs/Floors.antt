@@ -38,23 +38,24 @@ place-first e c x =
 floor-cap : (e s c : ℕ) → e ≤ c → e * s / c ≤ s
 floor-cap e s c h = let z : 0 + s ≡ s = omega arith in rw (none-yet e c, z) at (share-cap e c 0 s h)
 
--- a unit's start moved on, in numbers: floors f and t before the gap G rise to h and u with it
-place-numbers : (solid d S G f₁ f₂ h₁ h₂ t₁ t₂ u₁ u₂ : ℕ) → f₁ + f₂ ≤ S → f₁ ≤ h₁ → f₂ ≤ h₂ →
-    h₁ + h₂ ≤ f₁ + f₂ + G → t₁ ≤ u₁ → t₂ ≤ u₂ →
-    solid + (S - f₁ - f₂) + t₁ + t₂ + d + ((G - (h₁ - f₁) - (h₂ - f₂)) + (u₁ - t₁) + (u₂ - t₂))
-    ≡ solid + d + ((S + G) - h₁ - h₂) + u₁ + u₂
-place-numbers solid d S G f₁ f₂ h₁ h₂ t₁ t₂ u₁ u₂ a b c e f g =
-    linear (S - f₁ - f₂) (h₁ - f₁) (h₂ - f₂) (G - (h₁ - f₁) - (h₂ - f₂)) ((S + G) - h₁ - h₂) (u₁ - t₁) (u₂ - t₂)
-    (omega arith) (omega arith) (omega arith) (given (h₁ - f₁) (h₂ - f₂) (omega arith)) (omega arith) (omega arith)
+-- a unit's start moved on, in numbers: with a gap G after spaces S the shrink stages' floors rise from p and q to r
+-- and s, those of the stretch stages from t and u to v and w
+place-numbers : (solid d S G p q r s t u v w : ℕ) →
+    p + q ≤ S → p ≤ r → q ≤ s → r + s ≤ p + q + G → t ≤ v → u ≤ w →
+    solid + (S - p - q) + t + u + d + ((G - (r - p) - (s - q)) + (v - t) + (w - u))
+    ≡ solid + d + ((S + G) - r - s) + v + w
+place-numbers solid d S G p q r s t u v w a b c e f g =
+    linear (S - p - q) (r - p) (s - q) (G - (r - p) - (s - q)) ((S + G) - r - s) (v - t) (w - u)
+    (omega arith) (omega arith) (omega arith) (given (r - p) (s - q) (omega arith)) (omega arith) (omega arith)
     (omega arith)
   where
-    given : (x₁ x₂ : ℕ) → x₁ + x₂ ≤ G → G ≡ G - x₁ - x₂ + x₁ + x₂
-    given x₁ x₂ h = omega arith
+    given : (x y : ℕ) → x + y ≤ G → G ≡ G - x - y + x + y
+    given x y h = omega arith
 
-    linear : (k x₁ x₂ m n y₁ y₂ : ℕ) → S ≡ k + f₁ + f₂ → h₁ ≡ f₁ + x₁ → h₂ ≡ f₂ + x₂ → G ≡ m + x₁ + x₂ →
-        S + G ≡ n + h₁ + h₂ → u₁ ≡ t₁ + y₁ → u₂ ≡ t₂ + y₂ →
-        solid + k + t₁ + t₂ + d + (m + y₁ + y₂) ≡ solid + d + n + u₁ + u₂
-    linear k x₁ x₂ m n y₁ y₂ h i j l o p q = omega arith
+    linear : (k x y m n z o : ℕ) →
+        S ≡ k + p + q → r ≡ p + x → s ≡ q + y → G ≡ m + x + y → S + G ≡ n + r + s → v ≡ t + z → w ≡ u + o →
+        solid + k + t + u + d + (m + z + o) ≡ solid + d + n + v + w
+    linear k x y m n z o h i j l c₁ c₂ c₃ = omega arith
 
 -- amounts e that the gaps c can take
 module _ (e : Amounts) (c : Gap) (p : e .shrink₁ ≤ c .shrink₁) (q : e .shrink₂ ≤ c .shrink₂) where

@@ -5,7 +5,6 @@ use Prim.Native.Nat.{ℕ, zero, suc, _/_, _%_, _≤_, _<_}
 use native.Mathlib.Omega.{arith}
 use mathlib.Core.Bool.{Bool, true, false, cond, _&&_, _||_, and-eq-true-iff}
 use mathlib.Core.List.{List, [], _∷_}
-use mathlib.Core.Logic.{inl, inr}
 use lib.Dec.{ltb, eqb, leb·suc-suc}
 use lib.ListN.{length, getD}
 use borrow.Author.Tests.{ne-eqb, ltb-true, lt-ltb}
@@ -13,8 +12,7 @@ use Rattle.rules.specs.Basics.{isIn}
 use Rattle.rules.specs.Records.{classes, classOk, placeIn, rowOf, advanceKind}
 use Rattle.rules.specs.Records.{AdvanceKind, half-size, to-size, to-twice, full-size}
 use Rattle.rules.specs.Values.{kindNumber, kindNumbered, entryOf, classTable}
-use Rattle.rules.proofs.Facts.{ordered, true-false}
-use Rattle.rules.proofs.Table.{tabled-at}
+use Rattle.rules.proofs.Table.{tabled-at, allOf, all-at}
 
 -- a kind of advance and its number
 number-kept : (k : AdvanceKind) → kindNumbered (kindNumber k) ≡ k
@@ -50,8 +48,7 @@ entry-kind c =
 
 -- each number of a list is below b
 abbrev below : ℕ → List ℕ → Bool
-below b [] = true
-below b (k ∷ ks) = ltb k b && below b ks
+below b ks = allOf (λ k. ltb k b) ks
 
 -- a number from b on is not in such a list, and has no place there
 below-past : (b c : ℕ) → b ≤ c → (ks : List ℕ) → below b ks ≡ true →
@@ -89,11 +86,7 @@ classOk-row c = placeIn-below c classes
 -- a class is in the table
 pub class-small : (c : ℕ) → classOk c ≡ true → c < 28
 unfolding classOk classes
-class-small c e =
-    elim (ordered c 28) [
-      | inl h ↦ h
-      | inr h ↦ absurd (true-false (sym e ∙ below-past 28 c h classes refl .0))
-    ]
+class-small c e = ltb-true c 28 (all-at (λ k. ltb k 28) classes refl c e)
 
 pub row-small : (c : ℕ) → classOk c ≡ true → rowOf c < 18
 row-small c e = ltb-true (rowOf c) 18 (sym (classOk-row c) ∙ e)
