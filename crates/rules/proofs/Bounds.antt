@@ -1,11 +1,11 @@
--- How large a group's numbers get, so that the program's sums and products fit 32 bits.
+-- How large a size and a group's numbers get, so that the program's sums and products fit 32 bits.
 -- Assumes nothing.
 use mathlib.Core.Path.{_≡_}
 use Prim.Native.Nat.{ℕ, _+_, _*_, _/_, _%_, _≤_, _<_}
 use native.Mathlib.Omega.{arith}
 use native.Mathlib.Nat.{mul-le-mul, mul-le-mul-left, mul-comm, div-le-of-le-mul}
 use mathlib.Core.Bool.{true, _&&_, and-eq-true-iff}
-use borrow.Author.Tests.{leb-true, ltb-true}
+use borrow.Author.Tests.{leb-true, ltb-true, eqb-true}
 use lib.Dec.{leb, ltb, eqb}
 use Rattle.rules.specs.Basics.{within}
 use Rattle.rules.specs.Records.{sizeOk}
@@ -43,16 +43,30 @@ within-low lo hi x e = leb-true lo x (and-eq-true-iff (leb lo x) (leb x hi) .0 e
 pub within-high : (lo hi x : ℕ) → within lo hi x ≡ true → x ≤ hi
 within-high lo hi x e = leb-true x hi (and-eq-true-iff (leb lo x) (leb x hi) .0 e .1)
 
-pub rubyOk-bounds : (base n s k : ℕ) → rubyOk base n s k ≡ true → RubyBounds base n s k
+-- a size: a multiple of 8, from 8 to 4,000
+pub record SizeBounds (s : ℕ) : Type 0 where
+  pub eighths : s ≡ 8 * (s / 8)
+  pub least : 8 ≤ s
+  pub most : s ≤ 4000
+
+pub size-bounds : (s : ℕ) → sizeOk s ≡ true → SizeBounds s
 unfolding sizeOk
+size-bounds s e =
+    let both = and-eq-true-iff (eqb (s % 8) 0) (within 8 4000 s) .0 e in
+    record {
+      eighths = omega (arith, eqb-true (s % 8) 0 (both .0));
+      least = within-low 8 4000 s (both .1);
+      most = within-high 8 4000 s (both .1);
+    }
+
+pub rubyOk-bounds : (base n s k : ℕ) → rubyOk base n s k ≡ true → RubyBounds base n s k
 rubyOk-bounds base n s k e =
     let p = and-eq-true-iff (sizeOk s && within 1 64 n && ltb k n) (within 1 64000 base) .0 e in
     let q = and-eq-true-iff (sizeOk s && within 1 64 n) (ltb k n) .0 (p .0) in
     let t = and-eq-true-iff (sizeOk s) (within 1 64 n) .0 (q .0) in
-    let u = and-eq-true-iff (eqb (s % 8) 0) (within 8 4000 s) .0 (t .0) in
     record {
       total = within-high 1 64000 base (p .1);
       characters = within-high 1 64 n (t .1);
-      size = within-high 8 4000 s (u .1);
+      size = size-bounds s (t .0) .most;
       character = ltb-true k n (q .1);
     }

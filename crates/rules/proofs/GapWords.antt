@@ -14,7 +14,8 @@ use Rattle.rules.specs.Values.{SideOk}
 use Rattle.rules.proofs.Packed.{at-most-255, unpacked-packed}
 use Rattle.rules.proofs.Cells.{cell-small, cell-gap, cell-agrees}
 use Rattle.rules.proofs.Entries.{EntryLaw, entry-law}
-use Rattle.rules.proofs.Weights.{size-eighths, size-most, weight-most, solid-after}
+use Rattle.rules.proofs.Bounds.{size-bounds}
+use Rattle.rules.proofs.Weights.{weight-most, solid-after}
 
 -- a word holds the gap, and 254 like it
 pub record GapBounds (g : Gap) : Type 0 where
@@ -36,8 +37,8 @@ module _ (L R : Side) (l : SideOk L) (r : SideOk R) where
 
   in-eighths : gapOf L R ≡ gapSet (named (cell L R)) (8 * (L .size / 8)) (8 * (R .size / 8)) (weight L R)
   in-eighths =
-      let a = size-eighths (L .size) (l .size) in
-      let b = size-eighths (R .size) (r .size) in
+      let a = size-bounds (L .size) (l .size) .eighths in
+      let b = size-bounds (R .size) (r .size) .eighths in
       gap-set ∙ (λ t. gapSet (named (cell L R)) (a t) (b t) (weight L R))
 
   gap-packs : Packs (gapOf L R)
@@ -46,8 +47,8 @@ module _ (L R : Side) (l : SideOk L) (r : SideOk R) where
   gap-at-most : AtMost 1 (gapOf L R)
   gap-at-most =
       rw gap-set
-      (law .at-most (L .size) (R .size) (weight L R) (size-most (L .size) (l .size)) (size-most (R .size) (r .size))
-      (weight-most L R))
+      (law .at-most (L .size) (R .size) (weight L R) (size-bounds (L .size) (l .size) .most)
+      (size-bounds (R .size) (r .size) .most) (weight-most L R))
 
   pub gap-bounds : GapBounds (gapOf L R)
   gap-bounds = record { packs = gap-packs; at-most = gap-at-most }

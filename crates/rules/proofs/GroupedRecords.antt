@@ -1,6 +1,6 @@
 -- Bounds: what answer 8 leaves of a record of a group. Assumes nothing.
 use mathlib.Core.Path.{_≡_, sym}
-use Prim.Native.Nat.{ℕ, suc, _%_, _≤_, _<_}
+use Prim.Native.Nat.{ℕ, suc, _≤_, _<_}
 use native.Mathlib.Omega.{arith}
 use mathlib.Core.Bool.{true, false, _&&_, and-eq-true-iff}
 use mathlib.Core.List.{List, [], _∷_}
@@ -11,7 +11,7 @@ use borrow.Author.Tests.{eqb-true, ne-eqb}
 use Rattle.rules.specs.Basics.{within, isIn}
 use Rattle.rules.specs.Records.{Rec, sizeOk, advanceKind, advanceOk, groupOk, recOk, badRecord}
 use Rattle.rules.specs.Meanings.{All, all-none, all-more}
-use Rattle.rules.proofs.Bounds.{within-low, within-high}
+use Rattle.rules.proofs.Bounds.{size-bounds}
 use Rattle.rules.proofs.Facts.{tested, true-false, some-none}
 use Rattle.rules.proofs.Limits.{asked}
 
@@ -51,19 +51,19 @@ pub record Grouped (r : Rec) : Type 0 where
   pub high : r .advance ≤ 4000
 
 pub in-group : (r : Rec) → Fine r → (r .group ≡ 0 → ⊥) → Grouped r
-unfolding sizeOk groupOk
+unfolding groupOk
 in-group r e h =
     let a = asked r e in
     let kana = isIn (r .class) (15 ∷ 16 ∷ 19 ∷ []) in
     let g : leb (r .group) 65535 && within 1 64 (r .ruby) && kana ≡ true = rw (ne-eqb (r .group) 0 h) at (a .group) in
     let p = and-eq-true-iff (leb (r .group) 65535 && within 1 64 (r .ruby)) kana .0 g in
-    let s = and-eq-true-iff (eqb (r .size % 8) 0) (within 8 4000 (r .size)) .0 (a .size) .1 in
+    let s = size-bounds (r .size) (a .size) in
     let full = as-wide (r .class) (r .size) (r .advance) (p .1) (a .advance) in
     record {
       size = a .size;
       ruby = and-eq-true-iff (leb (r .group) 65535) (within 1 64 (r .ruby)) .0 (p .0) .1;
-      low = omega (arith, within-low 8 4000 (r .size) s);
-      high = omega (arith, within-high 8 4000 (r .size) s);
+      low = omega (arith, s .least);
+      high = omega (arith, s .most);
     }
 
 -- a record with ruby is of a group

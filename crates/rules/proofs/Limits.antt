@@ -1,6 +1,6 @@
 -- Bounds: what answer 8 leaves of records. Assumes nothing.
 use mathlib.Core.Path.{_≡_, refl, sym}
-use Prim.Native.Nat.{ℕ, zero, suc, _*_, _/_, _%_, _≤_}
+use Prim.Native.Nat.{ℕ, zero, suc, _*_, _/_, _≤_}
 use native.Mathlib.Omega.{arith}
 use mathlib.Core.Bool.{Bool, true, false, _&&_}
 use mathlib.Core.List.{List, [], _∷_}
@@ -14,7 +14,7 @@ use Rattle.rules.specs.Records.{Rec, codeOk, classes, classOk, sizeOk, A
 use Rattle.rules.specs.Records.{full-size, advanceKind, advanceFits, advanceOk, groupOk, recOk, badRecord}
 use Rattle.rules.specs.Sides.{sideBy}
 use Rattle.rules.specs.Values.{SideOk}
-use Rattle.rules.proofs.Bounds.{within-high}
+use Rattle.rules.proofs.Bounds.{within-high, size-bounds}
 use Rattle.rules.proofs.Facts.{tested, true-false, nil-cons, some-none}
 
 pub record RecordBounds (r : Rec) : Type 0 where
@@ -69,10 +69,10 @@ asked r e =
     }
 
 pub record-bounds : (r : Rec) → recOk r ≡ true → RecordBounds r
-unfolding sizeOk advanceOk
+unfolding advanceOk
 record-bounds r e =
     let q = asked r e in
-    let s = within-high 8 4000 (r .size) (and-right (eqb (r .size % 8) 0) _ (q .size)) in
+    let s = size-bounds (r .size) (q .size) .most in
     let a = advance-bound (advanceKind (r .class)) (r .size) (r .advance) (q .advance) in
     let n = ruby-bound (r .class) (r .group) (r .ruby) (q .group) in
     record { size = s; advance = omega arith; ruby = n }

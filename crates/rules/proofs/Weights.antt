@@ -1,32 +1,17 @@
--- What a size and a weight are to a gap's word: a size is so many eighths, and a weight 0 or 1. Assumes nothing.
+-- The weight of a gap, 0 or 1, as the program asks for it: by the break, and by the class on the left. Assumes
+-- nothing.
 use mathlib.Core.Path.{_≡_, sym}
-use Prim.Native.Nat.{ℕ, _*_, _/_, _%_, _≤_}
+use Prim.Native.Nat.{ℕ, _≤_}
 use native.Mathlib.Omega.{arith}
 use mathlib.Core.Bool.{Bool, true, false, cond, not, _&&_, and-eq-true-iff}
 use mathlib.Core.Logic.{inl, inr}
 use lib.Dec.{eqb}
 use borrow.Author.Tests.{eqb-true, eq-eqb}
-use Rattle.rules.specs.Basics.{within}
-use Rattle.rules.specs.Records.{sizeOk}
 use Rattle.rules.specs.Space.{quarter, ruleOf, spaceBy, spaceOf}
 use Rattle.rules.specs.Sides.{Side, forbidden}
 use Rattle.rules.specs.Gaps.{weight}
 use Rattle.rules.specs.Spacing.{solid, eighths, sameSpace, agrees}
 use Rattle.rules.proofs.Facts.{tested, true-false}
-use Rattle.rules.proofs.Bounds.{within-high}
-
--- sizes --------------------------------------------------------------------------------------------------------------
-
--- a size is a multiple of 8, and at most 4,000
-pub size-eighths : (s : ℕ) → sizeOk s ≡ true → s ≡ 8 * (s / 8)
-unfolding sizeOk
-size-eighths s e = omega (arith, eqb-true (s % 8) 0 (and-eq-true-iff (eqb (s % 8) 0) (within 8 4000 s) .0 e .0))
-
-pub size-most : (s : ℕ) → sizeOk s ≡ true → s ≤ 4000
-unfolding sizeOk
-size-most s e = within-high 8 4000 s (and-eq-true-iff (eqb (s % 8) 0) (within 8 4000 s) .0 e .1)
-
--- weights ------------------------------------------------------------------------------------------------------------
 
 -- before class 5 a break is forbidden
 before-dot : (L R : Side) → forbidden L R ≡ false → eqb (R .class) 5 ≡ false

@@ -10,7 +10,8 @@ use Rattle.rules.specs.Gaps.{weight, gapOf}
 use Rattle.rules.specs.Packed.{unpacked, weighing}
 use Rattle.rules.specs.Values.{sideOf}
 use Rattle.rules.proofs.Cells.{cell-small}
-use Rattle.rules.proofs.Weights.{size-most, weight-tied, weight-dot, weight-free}
+use Rattle.rules.proofs.Bounds.{size-bounds}
+use Rattle.rules.proofs.Weights.{weight-tied, weight-dot, weight-free}
 use Rattle.rules.proofs.GapWords.{cell, gap-word, solid-no-dot, solid-word}
 use Rattle.rules.proofs.gaps.gap_between.Statement.{statement}
 use Rattle.rules.proofs.gaps.gap_between.Tie as tie
@@ -68,8 +69,8 @@ taken-requires c κs =
     let l = s .pre .1 .0 .0 in
     let r = s .pre .1 .0 .1 in (
       rw (entry-is (c .before)) (cell-small (left s .class) (right s .class) (l .class) (r .class)),
-      size-most (left s .size) (l .size),
-      size-most (right s .size) (r .size),
+      size-bounds (left s .size) (l .size) .most,
+      size-bounds (right s .size) (r .size) .most,
       s .pre .1 .1 .words-are,
     )
 
