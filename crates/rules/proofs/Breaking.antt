@@ -102,7 +102,7 @@ breaking-joined m x [] = refl
 breaking-joined m x (l ∷ ls) = filled-joined m x l ls
 
 -- lines that begin with l, which starts with u
-filled-first : (m x : ℕ) (l : Run TextUnit) (ks : List (Run TextUnit)) →
+pub filled-first : (m x : ℕ) (l : Run TextUnit) (ks : List (Run TextUnit)) →
     (k : Run TextUnit) × (js : List (Run TextUnit)) × (filled m x l ks ≡ k ∷ js) × (k .first ≡ l .first)
 unfolding filled
 filled-first m x l [] = (l, [], refl, refl)

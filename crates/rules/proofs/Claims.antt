@@ -1,7 +1,7 @@
 -- What is proved of document 01's rules, as document 02's requests amend them, in reading order: each claim is stated
 -- in the words of specs/Meanings.antt and proved by one citation. Assumes nothing.
 use mathlib.Core.Path.{_≡_, _∙_, sym}
-use Prim.Native.Nat.{ℕ, _+_, _/_, _≤_, _<_}
+use Prim.Native.Nat.{ℕ, _+_, _-_, _/_, _≤_, _<_}
 use mathlib.Core.Bool.{Bool, true, false}
 use mathlib.Core.List.{List, _∷_, _++_, map}
 use mathlib.Core.Logic.{_↔_}
@@ -14,11 +14,13 @@ use Rattle.rules.specs.Groups.{TextUnit, sameGroup, units, advance, grou
 use Rattle.rules.specs.Sides.{Side, arabicDigit, forbidden}
 use Rattle.rules.specs.Gaps.{flexibility, Gap, gapBy}
 use Rattle.rules.specs.Breaks.{bound, width, runs, noBreaking, breaking}
-use Rattle.rules.specs.Adjustment.{plus, amountsOf, totals, natural, lineOf}
-use Rattle.rules.specs.Refusals.{judged}
+use Rattle.rules.specs.Adjustment.{plus, amountsOf, totals, natural, Line, lineOf, compose}
+use Rattle.rules.specs.Redone.{editLine, resumes, resumed, report}
+use Rattle.rules.specs.Refusals.{judged, splice}
 use Rattle.rules.specs.Meanings.{All, lastOf, Maximal, Boundary, OneUnit, RubyPlaced, Choice, Fits, Longest}
 use Rattle.rules.specs.Meanings.{FirstWide, GapAt, WithinLimits, FirstStageFull, Apart}
 use Rattle.rules.specs.Percent.{digitAndPostfix}
+use Rattle.rules.specs.Stable.{Holds, FirstThat, Resumes, usedBy, Stable}
 use Rattle.rules.specs.Spacing.{named, gapSet, spacingTable, cellIn}
 use Rattle.rules.specs.Packed.{packed, unpacked, Packs, AtMost}
 use Rattle.rules.proofs.Facts.{some-none}
@@ -34,6 +36,11 @@ use Rattle.rules.proofs.Unique.{only-lines}
 use Rattle.rules.proofs.Percent.{digit-decides, lines-keep-postfix}
 use Rattle.rules.proofs.Cells.{table-gap}
 use Rattle.rules.proofs.Packed.{packed-plus, unpacked-packed}
+use Rattle.rules.proofs.KeptLines.{all-held}
+use Rattle.rules.proofs.EditLine.{edit-line}
+use Rattle.rules.proofs.FirstLines.{resumed-first, resumes-exactly}
+use Rattle.rules.proofs.RedoneLines.{edit-stable}
+use Rattle.rules.proofs.RedoneCases.{edit-rows, edits-right, edit-cases-hold}
 use Rattle.rules.proofs.Ends.{ends-within, wide-ends, flush-ends, short-ends, final-ends}
 use Rattle.rules.proofs.GapLimits.{within-limits}
 use Rattle.rules.proofs.GapLimits.{first-stage-full}
@@ -177,6 +184,34 @@ pub final-line : (m x : ℕ) (l : Run TextUnit) → x + width l ≤ m → natura
     lineOf m x true l .end ≡ natural x l
 final-line m x l fits h = final-ends m x l fits h
 
+-- Lines redone -----------------------------------------------------------------------------------------------------
+-- request 03, of an edit's old and new lines
+
+-- k is the old line that holds the place, or the last if the place is the end, or 0 if there are none
+pub k-holds : (m x : ℕ) (rs : List Rec) (place : ℕ) →
+    let old = compose m x (units rs) in
+    (place < length rs → Holds place old (editLine place old))
+    × (length rs ≤ place → editLine place old ≡ length old - 1)
+k-holds m x rs place = rw (← all-held m x rs) (edit-line place (compose m x (units rs)))
+
+-- r is the first new line that passes its test, or the new line count
+pub r-first : (place deleted inserted : ℕ) (old new : List Line) →
+    FirstThat (resumes place deleted inserted old) new (resumed place deleted inserted old new)
+r-first place deleted inserted old new = resumed-first place deleted inserted old new
+
+pub r-test : (place deleted inserted : ℕ) (old : List Line) (j i : ℕ) →
+    (resumes place deleted inserted old j i ≡ true) ↔ Resumes place deleted inserted old j i
+r-test place deleted inserted old j i = resumes-exactly place deleted inserted old j i
+
+-- of an edit of records at a place, of a stretch that they have: new lines before f equal the old ones, those from r
+-- on are old lines, moved, and so are their words; the report is the number of the lines between, and no more than the
+-- new lines
+pub lines-stable : (m x : ℕ) (rs : List Rec) (place deleted : ℕ) (ins : List Rec) → place + deleted ≤ length rs →
+    let old = compose m x (units rs) in
+    let new = compose m x (units (splice rs place deleted ins)) in
+    Stable place deleted (length ins) old new (usedBy old) (usedBy new) (report place deleted (length ins) old new)
+lines-stable m x rs place deleted ins fits = edit-stable m x rs place deleted ins fits
+
 -- Composed by hand -------------------------------------------------------------------------------------------------
 
 -- C1 to C13
@@ -190,3 +225,7 @@ percent-by-hand = percents-hold
 -- the break and the gap between two units, rule by rule
 pub pairs-by-hand : map ruled pairs ≡ map wanted pairs
 pairs-by-hand = pairs-hold
+
+-- request 03: the lines that an edit composes anew
+pub edits-by-hand : edits-right edit-rows ≡ true
+edits-by-hand = edit-cases-hold

@@ -80,7 +80,7 @@ unfolding joined counts
 lines-few [] = omega arith
 lines-few (l ∷ ls) = omega (arith, lines-few ls, counts-append (whole l) (joined ls))
 
-counts-joined : (us : List TextUnit) → counts us ≡ length (joined us)
+pub counts-joined : (us : List TextUnit) → counts us ≡ length (joined us)
 unfolding counts joined
 counts-joined [] = refl
 counts-joined (u ∷ us) = omega (arith, counts-joined us, length-append (whole u) (joined us))

@@ -12,6 +12,17 @@ pub mod Breaking
 pub mod NoBreaking
 pub mod LongestLines
 pub mod Unique
+pub mod Parts
+pub mod Growing
+pub mod Stops
+pub mod LineStarts
+pub mod Splices
+pub mod KeptLines
+pub mod EditLine
+pub mod FirstLines
+pub mod RedoneLines
+pub mod MovedWords
+pub mod RedoneCases
 pub mod Percent
 pub mod Shares
 pub mod Ends

@@ -11,9 +11,10 @@ use Rattle.rules.specs.Groups.{shift, baseOffset, offsets, baseOffsets, 
 use Rattle.rules.specs.Breaks.{smallest, runs, wideRun, noBreaking, filled, breaking}
 use Rattle.rules.specs.Adjustment.{totals, unitAdvances, amounts, amountsOf, placed, ending, kindOf, lineOf}
 use Rattle.rules.specs.Adjustment.{linesOf, compose}
+use Rattle.rules.specs.Redone.{starts, holding, editLine, firstLine, resumed, report}
 use Rattle.rules.specs.Sheet.{placesOf, placeWords, lineWords, slotWords}
-use Rattle.rules.specs.Refusals.{judged, sound, splice, slotRows, editSlot, callRows, called, onSlot, edit}
-use Rattle.rules.specs.Refusals.{readRows, readNumber, readStart, readLength, readWords}
+use Rattle.rules.specs.Refusals.{judged, sound, splice, linesRedone, slotRows, editSlot, callRows, called}
+use Rattle.rules.specs.Refusals.{onSlot, edit, readRows, readNumber, readStart, readLength, readWords}
 use Rattle.rules.specs.Refusals.{badSlot, freshSlots, setUpRows, setUpAnswer, setUp}
 use Rattle.rules.specs.Spacing.{entries, agrees, cellOf, spacingTable}
 use Rattle.rules.specs.Packed.{packed, unpacked, entryWords}
@@ -24,6 +25,7 @@ unfolding joined cut zeros codeOk classes classOk rowOf sizeOk advanceKind advan
     offsets baseOffsets rubyOffset rubyPlace ruleOf measured spaceBy spaceOf forbidden flexibility gapBy weight
     gapOf smallest runs wideRun noBreaking filled breaking totals unitAdvances amounts amountsOf placed ending
     kindOf lineOf linesOf compose placesOf placeWords lineWords slotWords judged sound splice slotRows editSlot
+    starts holding editLine firstLine resumed report linesRedone
     callRows called onSlot edit readRows readNumber readStart readLength readWords badSlot freshSlots setUpRows
     setUpAnswer setUp entries agrees cellOf spacingTable packed unpacked entryWords
 computed = tt

@@ -1,5 +1,6 @@
 -- The rules of document 01 as document 02's requests amend them, a file to a section. A reader's order is that of the
--- lines below; what the definitions mean, said without their algorithms, is `Meanings`, and `Percent` for request 01.
+-- lines below; what the definitions mean, said without their algorithms, is `Meanings`, and for requests 01 and 03
+-- `Percent` and `Stable`.
 -- `Spacing` and `Packed`, of request 02, state the tables and words in which the program has the gaps.
 pub mod Basics
 pub mod Records
@@ -9,6 +10,7 @@ pub mod Gaps
 pub mod Groups
 pub mod Breaks
 pub mod Adjustment
+pub mod Redone
 pub mod Sheet
 pub mod Refusals
 pub mod Spacing
@@ -16,4 +18,5 @@ pub mod Packed
 pub mod Values
 pub mod Meanings
 pub mod Percent
+pub mod Stable
 pub mod Computed

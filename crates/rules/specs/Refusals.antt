@@ -6,6 +6,7 @@
 --   judged       answers 8, 9 and 10 of records in a measure
 --   sound        a slot to which answer 4 does not apply
 --   splice       the named stretch of records replaced
+--   lines redone    the lines that an edit composes anew (document 02, request 03)
 --   on slot      a call on one slot of a sheet, by what it does to the slot's words
 --
 -- Assumes nothing.
@@ -20,6 +21,7 @@ use Rattle.rules.specs.Records.{Rec, records, badRecord}
 use Rattle.rules.specs.Groups.{groupFault, units}
 use Rattle.rules.specs.Breaks.{noBreaking}
 use Rattle.rules.specs.Adjustment.{compose}
+use Rattle.rules.specs.Redone.{report}
 use Rattle.rules.specs.Sheet.{Setting, setting, slotWords, fresh, clinicOf, measureOf, indentOf, settingOf}
 use Rattle.rules.specs.Sheet.{countOf, lineCountOf, recordsOf, limitsOk, slotLimitsOk}
 use Rattle.rules.specs.Sheet.{slotCount, lengthOk, slotAt, withSlot}
@@ -31,17 +33,22 @@ pub record Answer : Type 0 where
 abbrev pub says : ℕ → ℕ → Answer
 says n p = record { number = n; place = p }
 
--- An edit's answer is a type of its own, apart from set-up's, so that it can tell more than the tables do
+-- An edit's answer is a type of its own, apart from set-up's: it tells the lines redone too
 pub record EditAnswer : Type 0 where
   pub number : ℕ
   pub place : ℕ
+  pub redone : ℕ
 
-abbrev pub editSays : ℕ → ℕ → EditAnswer
-editSays n p = record { number = n; place = p }
+abbrev pub editSays : ℕ → ℕ → ℕ → EditAnswer
+editSays n p redone = record { number = n; place = p; redone = redone }
 
--- an answer of the tables, as an edit gives it
+-- a refusal of the tables, as an edit gives it: "a refused one reports 0"
 abbrev pub asEdit : Answer → EditAnswer
-asEdit a = editSays (a .number) (a .place)
+asEdit a = editSays (a .number) (a .place) 0
+
+-- an answer of the tables, refusal or not, with the lines redone where it is none
+abbrev pub reporting : Answer → ℕ → EditAnswer
+reporting a redone = editSays (a .number) (a .place) (cond (eqb (a .number) 0) redone 0)
 
 abbrev pub Outcome : Type 0 → Type 0
 Outcome A = A × List ℕ
@@ -70,9 +77,19 @@ sound s =
 unfoldable pub splice : List Rec → ℕ → ℕ → List Rec → List Rec
 splice rs place deleted new = take place rs ++ (new ++ drop (place + deleted) rs)
 
+-- how many lines it composes anew in a measure m with an indent x: "Old lines are those that the rules give the old
+-- records"
+unfoldable pub linesRedone : ℕ → ℕ → List Rec → ℕ → ℕ → List Rec → ℕ
+linesRedone m x rs place deleted new =
+    report place deleted (length new) (compose m x (units rs)) (compose m x (units (splice rs place deleted new)))
+
 -- a slot's records as an edit leaves them
 abbrev pub edited : List ℕ → ℕ → ℕ → List ℕ → List Rec
 edited s place deleted inserted = splice (recordsOf s) place deleted (records inserted 0 (length inserted / 6))
+
+abbrev pub editRedone : List ℕ → ℕ → ℕ → List ℕ → ℕ
+editRedone s place deleted inserted =
+    linesRedone (measureOf s) (indentOf s) (recordsOf s) place deleted (records inserted 0 (length inserted / 6))
 
 -- the rows 4 to 7 of an edit of slot s
 unfoldable pub slotRows : List ℕ → ℕ → ℕ → List ℕ → List (Bool × Answer)
@@ -89,7 +106,10 @@ unfoldable pub editSlot : List ℕ → ℕ → ℕ → List ℕ → Outcome Edit
 editSlot s place deleted inserted =
     let rs = edited s place deleted inserted in
     let a = firstOf (slotRows s place deleted inserted) (judged (measureOf s) (indentOf s) rs) in
-    (asEdit a, cond (eqb (a .number) 0) (slotWords (settingOf s) rs) s)
+    (
+      reporting a (editRedone s place deleted inserted),
+      cond (eqb (a .number) 0) (slotWords (settingOf s) rs) s,
+    )
 
 -- the rows 1 to 3, with which each call on a slot begins; 3 looks at no word of the slot but its clinic
 unfoldable pub callRows : List ℕ → ℕ → ℕ → List (Bool × Answer)

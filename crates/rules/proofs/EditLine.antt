@@ -1,0 +1,100 @@
+-- Document 02, request 03: what k and f are. Assumes nothing.
+use mathlib.Core.Path.{_≡_, refl, ap}
+use Prim.Native.Nat.{ℕ, zero, suc, _-_, _≤_, _<_, min}
+use native.Mathlib.Omega.{arith}
+use mathlib.Core.Bool.{true, false}
+use mathlib.Core.List.{List, [], _∷_}
+use mathlib.Core.Logic.{inl, inr}
+use lib.Dec.{ltb}
+use lib.ListN.{length, take, length-take}
+use borrow.Author.Tests.{ltb-true, ltb-false, lt-ltb, le-ltb}
+use Rattle.rules.specs.Adjustment.{Line}
+use Rattle.rules.specs.Redone.{holding, editLine, firstRedone}
+use Rattle.rules.specs.Stable.{start, Holds}
+use Rattle.rules.proofs.Facts.{tested}
+
+-- a line up to the one that holds record i starts at it or before it
+held : (i : ℕ) (ls : List Line) (j : ℕ) → j ≤ holding i ls → start j ls ≤ i
+unfolding holding start
+held i ls zero h = omega arith
+held i [] (suc j) h = omega arith
+held i (l ∷ ls) (suc j) h =
+    elim (tested (ltb i (l .count))) [
+      | inl e ↦ let g : suc j ≤ 0 = rw (e, holding) at h in absurd (omega arith)
+      | inr e ↦
+          let g : suc j ≤ suc (holding (i - l .count) ls) = rw (e, holding) at h in
+          omega (arith, held (i - l .count) ls j (omega arith), ltb-false i (l .count) e)
+    ]
+
+-- a record of the lines is held
+holding-holds : (i : ℕ) (ls : List Line) → i < start (length ls) ls → Holds i ls (holding i ls)
+unfolding holding start
+holding-holds i [] h = absurd (omega arith)
+holding-holds i (l ∷ ls) h =
+    elim (tested (ltb i (l .count))) [
+      | inl e ↦
+          rw (e, holding)
+          record { there = omega arith; from = omega arith; to = omega (arith, ltb-true i (l .count) e) }
+      | inr e ↦
+          let c = ltb-false i (l .count) e in
+          let g = holding-holds (i - l .count) ls (omega arith) in
+          rw (e, holding)
+          record { there = omega (arith, g .there); from = omega (arith, g .from); to = omega (arith, g .to) }
+    ]
+
+-- and no other
+holding-end : (i : ℕ) (ls : List Line) → start (length ls) ls ≤ i → holding i ls ≡ length ls
+unfolding holding start
+holding-end i [] h = refl
+holding-end i (l ∷ ls) h =
+    elim (tested (ltb i (l .count))) [
+      | inl e ↦ absurd (omega (arith, ltb-true i (l .count) e))
+      | inr e ↦ rw (e, holding) (ap suc (holding-end (i - l .count) ls (omega (arith, ltb-false i (l .count) e))))
+    ]
+
+-- k holds the place, or is the last old line if the place is the end, or 0 if there are none
+pub edit-line : (place : ℕ) (old : List Line) →
+    (place < start (length old) old → Holds place old (editLine place old))
+    × (start (length old) old ≤ place → editLine place old ≡ length old - 1)
+unfolding editLine
+edit-line place old = (
+  λ h.
+      let g = holding-holds place old h in
+      let e : min (holding place old) (length old - 1) ≡ holding place old = omega (arith, g .there) in
+      rw e g,
+  λ h. omega (arith, holding-end place old h),
+)
+
+-- only one line holds a record, so whoever finds one has k
+holding-only : (i : ℕ) (ls : List Line) (k : ℕ) → Holds i ls k → holding i ls ≡ k
+unfolding holding start
+holding-only i [] k h = absurd (omega (arith, h .there))
+holding-only i (l ∷ ls) zero h =
+    let e : ltb i (l .count) ≡ true = lt-ltb i (l .count) (omega (arith, h .to)) in
+    rw (e, holding)
+holding-only i (l ∷ ls) (suc k) h =
+    let e : ltb i (l .count) ≡ false = le-ltb i (l .count) (omega (arith, h .from)) in
+    rw (e, holding)
+    (ap suc
+    (holding-only (i - l .count) ls k
+    record { there = omega (arith, h .there); from = omega (arith, h .from); to = omega (arith, h .from, h .to) }))
+
+pub edit-line-only : (place : ℕ) (old : List Line) (k : ℕ) → Holds place old k → editLine place old ≡ k
+unfolding editLine
+edit-line-only place old k h = omega (arith, holding-only place old k h, h .there)
+
+-- f, where it is not 0, is before the line which holds the place, and is not line 0
+pub before-place : (place : ℕ) (old : List Line) (n : ℕ) → suc n ≡ firstRedone place old →
+    (suc n < length old) × (start (suc (suc n)) old ≤ place)
+unfolding editLine
+before-place place old n e =
+    let h : suc (suc n) ≤ holding place old = omega arith in
+    (omega arith, held place old (suc (suc n)) h)
+
+-- f is no more than the new line count, since those lines stay
+pub f-within : (place : ℕ) (old new : List Line) → take (firstRedone place old) new ≡ take (firstRedone place old) old →
+    firstRedone place old ≤ length new
+unfolding editLine
+f-within place old new e =
+    let f = firstRedone place old in
+    omega (arith, ap (λ ls. length ls) e, length-take f new, length-take f old)
