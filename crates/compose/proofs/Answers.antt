@@ -4,25 +4,26 @@ use mathlib.Core.List.{List, [], _∷_, _++_}
 use mathlib.Core.Bool.{_&&_}
 use mathlib.Core.Logic.{inl, inr}
 use mathlib.Core.Option.{Option, none, some}
-use Prim.Native.Nat.{ℕ, suc, _+_, _≤_, _<_}
+use Prim.Native.Nat.{ℕ, zero, suc, _+_, _≤_, _<_}
 use native.Mathlib.Omega.{arith}
 use lib.Dec.{eqb, ltb}
-use borrow.Author.Tests.{eqb-true, eqb-false}
-use lib.ListN.{length}
-use Rattle.rules.specs.Basics.{joined}
+use lib.ListN.{length, getD}
+use lib.Seq.{getD-take}
+use Rattle.rules.specs.Basics.{Run, whole, joined}
 use Rattle.rules.specs.Records.{Rec, recOk, badRecord}
-use Rattle.rules.specs.Groups.{sameGroup, badGroup, groupFault, units, counts}
+use Rattle.rules.specs.Groups.{TextUnit, sameGroup, badGroup, groupFault, units, counts}
 use Rattle.rules.specs.Breaks.{bound, runs, noBreaking}
-use Rattle.rules.specs.Adjustment.{compose}
+use Rattle.rules.specs.Adjustment.{lineOf, linesOf, compose}
 use Rattle.rules.specs.Refusals.{says, judged}
+use Rattle.rules.specs.Stable.{start}
 use Rattle.rules.proofs.Facts.{tested, some-none, some-same}
 use Rattle.rules.proofs.Cuts.{cut-joined, joined-append}
 use Rattle.rules.proofs.NoBreaking.{counts-append, place-of-10}
 use Rattle.rules.proofs.Lengths.{counts-units, length-linesOf, composed-few}
 use Rattle.rules.proofs.Words.{length-records}
 use Rattle.compose.specs.Paragraph.{size, paragraph, placeOr}
-use Rattle.compose.specs.Lines.{broken, composed, Broken, Written}
-use Rattle.compose.specs.Composed.{Accepted, Judged, Composed}
+use Rattle.compose.specs.Lines.{firsts, broken, composed, Broken}
+use Rattle.compose.specs.Composed.{Accepted, Judged, Lined, Started}
 
 -- a place below n names an answer; n itself names none, where answers name places below n
 pub named : (n r : ℕ) (o : Option ℕ) → r ≡ placeOr n o → r < n → o ≡ some r
@@ -116,19 +117,6 @@ pub acceptance : (ws : List ℕ) (m x : ℕ) (us gs rs : List ℕ) (number place
     Judged ws m x us gs rs number place
 acceptance ws m x us gs rs number place e h = record { refused = λ q. absurd (q e); accepted = λ q. h }
 
--- the number of `judge` is 0 where no answer applies
-pub judged-number : (ws : List ℕ) (m x : ℕ) (us gs rs : List ℕ) (number place : ℕ) →
-    Judged ws m x us gs rs number place →
-    eqb number 0 ≡ eqb (judged m x (paragraph ws) .number) 0
-judged-number ws m x us gs rs number place j =
-    elim (tested (eqb number 0)) [
-      | inl e ↦
-          let a = j .accepted (eqb-true number 0 e) in
-          let q = judged-0 m x (paragraph ws) (a .checked .sound) (a .checked .grouped) (a .fits) in
-          e ∙ sym (ap (λ n. eqb (n .number) 0) q)
-      | inr e ↦ ap (λ n. eqb (n .number) 0) (sym (j .refused (eqb-false number 0 e)))
-    ]
-
 -- there are as many lines as the breaking gives, and no more than records
 pub lines-composed : (ws : List ℕ) (m x : ℕ) → length (composed ws m x) ≡ length (broken ws m x)
 unfolding compose
@@ -138,19 +126,39 @@ pub lines-within : (ws : List ℕ) (m x : ℕ) → length (broken ws m x) ≤ si
 lines-within ws m x =
     omega (arith, lines-composed ws m x, composed-few m x (paragraph ws), length-records ws 0 (size ws))
 
--- what `compose` answers where nothing is refused
-pub composing : (ws : List ℕ) (m x : ℕ) (us gs rs places₀ lines₀ places lines starts : List ℕ)
-    (count number place : ℕ) →
-    Accepted ws m x us gs rs → Broken ws m x starts count → Written ws places₀ lines₀ places lines count m x →
-    (number ≡ 0) × (place ≡ count) → Composed ws m x places₀ lines₀ places lines number place
-composing ws m x us gs rs places₀ lines₀ places lines starts count number place a b w e =
+-- what `judge_and_break` answers where nothing is refused, and where something is
+pub lined : {ws : List ℕ} {m x : ℕ} {us gs rs starts : List ℕ} {count number place : ℕ} → Accepted ws m x us gs rs →
+    Broken ws m x starts count → (number ≡ 0) × (place ≡ count) → Lined ws m x us gs rs starts number place
+lined {ws} {m} {x} a b e =
     record {
       answer =
           judged-0 m x (paragraph ws) (a .checked .sound) (a .checked .grouped) (a .fits)
           ∙ rw (e .0, e .1, b .count) (ap (says 0) (lines-composed ws m x));
-      written = λ q. rw (e .1) w;
+      accepted = λ q. a;
+      broken = λ q. rw (e .1) b;
     }
 
-pub refusing : (ws : List ℕ) (m x : ℕ) (us gs rs places lines : List ℕ) (number place : ℕ) → (number ≡ 0 → ⊥) →
-    Judged ws m x us gs rs number place → Composed ws m x places lines places lines number place
-refusing ws m x us gs rs places lines number place z j = record { answer = j .refused z; written = λ q. absurd (z q) }
+pub refusing : {ws : List ℕ} {m x : ℕ} {us gs rs starts : List ℕ} {number place : ℕ} → (number ≡ 0 → ⊥) →
+    Judged ws m x us gs rs number place → Lined ws m x us gs rs starts number place
+refusing z j = record { answer = j .refused z; accepted = λ q. absurd (z q); broken = λ q. absurd (z q) }
+
+-- the first record of each line, as the breaking writes them
+firsts-start : (m x i : ℕ) (ls : List (Run TextUnit)) (j : ℕ) → j < length ls →
+    getD (firsts i ls) j 0 ≡ i + start j (linesOf m x ls)
+unfolding firsts linesOf lineOf start
+firsts-start m x i [] j h = absurd (omega arith)
+firsts-start m x i (l ∷ ls) zero h = omega arith
+firsts-start m x i (l ∷ ls) (suc j) h =
+    omega (arith, firsts-start m 0 (i + counts (whole l)) ls j (omega arith))
+
+pub starting : {ws : List ℕ} {m x : ℕ} {us gs rs starts : List ℕ} {number place : ℕ} →
+    Lined ws m x us gs rs starts number place → Started ws m x starts number place
+unfolding compose
+starting {ws} {m} {x} {starts = starts} {place = place} l =
+    record {
+      answer = l .answer;
+      first = λ z j h.
+          let b = l .broken z in
+          sym (getD-take place starts j 0 h) ∙ ap (λ s. getD s j 0) (b .first)
+          ∙ omega (arith, firsts-start m x 0 (broken ws m x) j (omega (arith, b .count)));
+    }

@@ -3,19 +3,23 @@
 --   fitting      at most 256 records, a measure and an indent within their limits
 --   filled       the tables are those of the paragraph
 --   judged       the answer 8, 9 or 10 with its place; or 0, and the tables are filled
+--   lined        the answer; where it is 0, the tables are filled and the lines broken
+--   started      the answer; where it is 0, the first record of each line is told
 --   composed     the answer; where it is 0, the place words and line words stand at the front of what stood there
 --
 -- Assumes nothing.
 use mathlib.Core.Path.{_≡_}
-use Prim.Native.Nat.{ℕ, _≤_}
+use Prim.Native.Nat.{ℕ, _≤_, _<_}
 use mathlib.Core.List.{List}
 use mathlib.Core.Option.{none}
+use lib.ListN.{getD}
 use Rattle.rules.specs.Groups.{units}
 use Rattle.rules.specs.Breaks.{noBreaking}
 use Rattle.rules.specs.Refusals.{says, judged}
+use Rattle.rules.specs.Stable.{start}
 use Rattle.compose.specs.Paragraph.{size, paragraph, Checked}
 use Rattle.compose.specs.Tables.{UnitTable, GapTable, RunTable}
-use Rattle.compose.specs.Lines.{Written}
+use Rattle.compose.specs.Lines.{composed, Broken, Written}
 
 pub record Fitting (ws : List ℕ) (m x : ℕ) : Type 0 where
   pub few : size ws ≤ 256
@@ -35,6 +39,15 @@ pub record Accepted (ws : List ℕ) (m x : ℕ) (us gs rs : List ℕ) : Type 0 w
 pub record Judged (ws : List ℕ) (m x : ℕ) (us gs rs : List ℕ) (number place : ℕ) : Type 0 where
   pub refused : (number ≡ 0 → ⊥) → judged m x (paragraph ws) ≡ says number place
   pub accepted : number ≡ 0 → Accepted ws m x us gs rs
+
+pub record Lined (ws : List ℕ) (m x : ℕ) (us gs rs starts : List ℕ) (number place : ℕ) : Type 0 where
+  pub answer : judged m x (paragraph ws) ≡ says number place
+  pub accepted : number ≡ 0 → Accepted ws m x us gs rs
+  pub broken : number ≡ 0 → Broken ws m x starts place
+
+pub record Started (ws : List ℕ) (m x : ℕ) (starts : List ℕ) (number place : ℕ) : Type 0 where
+  pub answer : judged m x (paragraph ws) ≡ says number place
+  pub first : number ≡ 0 → (j : ℕ) → j < place → getD starts j 0 ≡ start j (composed ws m x)
 
 pub record Composed (ws : List ℕ) (m x : ℕ) (places₀ lines₀ places lines : List ℕ) (number place : ℕ) : Type 0 where
   pub answer : judged m x (paragraph ws) ≡ says number place

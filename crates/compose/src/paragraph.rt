@@ -1,10 +1,8 @@
 // A paragraph judged and composed.
 ghost use mathlib.Core.Path.{_≡_};
 ghost use Prim.Native.Nat.{_≤_};
-ghost use lib.Dec.{eqb};
-ghost use Rattle.rules.specs.Refusals.{judged};
-ghost use Rattle.compose.specs.Paragraph.{paragraph, Checked};
-ghost use Rattle.compose.specs.Composed.{Fitting, Filled, Judged, Composed};
+ghost use Rattle.compose.specs.Paragraph.{Checked};
+ghost use Rattle.compose.specs.Composed.{Fitting, Filled, Judged, Lined, Started, Composed};
 use crate::breaking::break_lines;
 use crate::breaking::first_wide_run;
 use crate::checks::first_bad_record;
@@ -69,16 +67,38 @@ fn judge(
     says(0, 0)
 }
 
-// Whether a paragraph can be composed: answers 8, 9 and 10 do not apply.
-pub fn check(ws: &[u32], m: u32, x: u32) -> bool
+// Answers 8, 9 and 10 of a paragraph; or 0 and its line count, and then the tables are filled and the first record of
+// each line stands in `starts`.
+fn judge_and_break(
+    ws: &[u32],
+    m: u32,
+    x: u32,
+    units: &mut [u32; 768],
+    gaps: &mut [u64; 256],
+    runs: &mut [u32; 768],
+    starts: &mut [u32; 256],
+) -> Answer
     requires { ⌜ Fitting (now ws) m x ⌝ }
-    ensures { λ r. ⌜ r ≡ eqb (judged m x (paragraph (now (ws .entry))) .number) 0 ⌝ }
+    ensures { λ r. ⌜ Lined (now (ws .entry)) m x (now (units .exit)) (now (gaps .exit)) (now (runs .exit))
+        (now (starts .exit)) (r .number) (r .place) ⌝ }
+{
+    let a = judge(ws, m, x, units, gaps, runs);
+    if a.number != 0 {
+        return a;
+    }
+    says(0, break_lines(ws, runs, m, x, starts))
+}
+
+// Whether and how a paragraph breaks into lines: answers 8, 9 and 10; or 0 and the line count, and then the first
+// record of each line stands in `starts`.
+pub fn check(ws: &[u32], m: u32, x: u32, starts: &mut [u32; 256]) -> Answer
+    requires { ⌜ Fitting (now ws) m x ⌝ }
+    ensures { λ r. ⌜ Started (now (ws .entry)) m x (now (starts .exit)) (r .number) (r .place) ⌝ }
 {
     let mut units = [0u32; 768];
     let mut gaps = [0u64; 256];
     let mut runs = [0u32; 768];
-    let a = judge(ws, m, x, &mut units, &mut gaps, &mut runs);
-    a.number == 0
+    judge_and_break(ws, m, x, &mut units, &mut gaps, &mut runs, starts)
 }
 
 // Composes a paragraph. Where it is accepted its place words and line words stand at the front of `places` and
@@ -97,12 +117,20 @@ pub fn compose(
     let mut units = [0u32; 768];
     let mut gaps = [0u64; 256];
     let mut runs = [0u32; 768];
-    let a = judge(ws, m, x, &mut units, &mut gaps, &mut runs);
-    if a.number != 0 {
-        return a;
-    }
     let mut starts = [0u32; 256];
-    let count = break_lines(ws, &runs, m, x, &mut starts);
-    place_lines(ws, &units, &gaps, &starts, count, m, x, places, lines);
-    says(0, count)
+    let a = judge_and_break(ws, m, x, &mut units, &mut gaps, &mut runs, &mut starts);
+    if a.number == 0 {
+        place_lines(
+            ws,
+            &units,
+            &gaps,
+            &starts,
+            a.place as usize,
+            m,
+            x,
+            places,
+            lines,
+        );
+    }
+    a
 }

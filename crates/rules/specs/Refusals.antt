@@ -105,8 +105,7 @@ slotRows s place deleted inserted =
 unfoldable pub editSlot : List ℕ → ℕ → ℕ → List ℕ → Outcome EditAnswer
 editSlot s place deleted inserted =
     let rs = edited s place deleted inserted in
-    let a = firstOf (slotRows s place deleted inserted) (judged (measureOf s) (indentOf s) rs) in
-    (
+    let a = firstOf (slotRows s place deleted inserted) (judged (measureOf s) (indentOf s) rs) in (
       reporting a (editRedone s place deleted inserted),
       cond (eqb (a .number) 0) (slotWords (settingOf s) rs) s,
     )
