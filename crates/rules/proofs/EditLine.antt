@@ -1,5 +1,5 @@
 -- Document 02, request 03: what k and f are. Assumes nothing.
-use mathlib.Core.Path.{_≡_, refl, ap}
+use mathlib.Core.Path.{_≡_, refl, ap, _∙_}
 use Prim.Native.Nat.{ℕ, zero, suc, _-_, _≤_, _<_, min}
 use native.Mathlib.Omega.{arith}
 use mathlib.Core.Bool.{true, false}
@@ -11,7 +11,7 @@ use borrow.Author.Tests.{ltb-true, ltb-false, lt-ltb, le-ltb}
 use Rattle.rules.specs.Adjustment.{Line}
 use Rattle.rules.specs.Redone.{holding, editLine, firstRedone}
 use Rattle.rules.specs.Stable.{start, Holds}
-use Rattle.rules.proofs.Facts.{tested}
+use Rattle.rules.proofs.Facts.{tested, ordered}
 
 -- a line up to the one that holds record i starts at it or before it
 held : (i : ℕ) (ls : List Line) (j : ℕ) → j ≤ holding i ls → start j ls ≤ i
@@ -52,6 +52,14 @@ holding-end i (l ∷ ls) h =
       | inr e ↦ rw (e, holding) (ap suc (holding-end (i - l .count) ls (omega (arith, ltb-false i (l .count) e))))
     ]
 
+-- lines start one after another
+pub starts-ascend : (ls : List Line) (i j : ℕ) → i ≤ j → j ≤ length ls → start i ls ≤ start j ls
+unfolding start
+starts-ascend ls zero j h g = omega arith
+starts-ascend ls (suc i) zero h g = absurd (omega arith)
+starts-ascend [] (suc i) (suc j) h g = absurd (omega arith)
+starts-ascend (l ∷ ls) (suc i) (suc j) h g = omega (arith, starts-ascend ls i j (omega arith) (omega arith))
+
 -- k holds the place, or is the last old line if the place is the end, or 0 if there are none
 pub edit-line : (place : ℕ) (old : List Line) →
     (place < start (length old) old → Holds place old (editLine place old))
@@ -82,6 +90,20 @@ holding-only i (l ∷ ls) (suc k) h =
 pub edit-line-only : (place : ℕ) (old : List Line) (k : ℕ) → Holds place old k → editLine place old ≡ k
 unfolding editLine
 edit-line-only place old k h = omega (arith, holding-only place old k h, h .there)
+
+-- k is the last line that starts at the place or before it
+pub edit-line-last : (place : ℕ) (old : List Line) (k : ℕ) → k < length old → start k old ≤ place →
+    (suc k < length old → place < start (suc k) old) → editLine place old ≡ k
+edit-line-last place old k there from to =
+    elim (ordered place (start (suc k) old)) [
+      | inl h ↦ edit-line-only place old k record { there = there; from = from; to = h }
+      | inr h ↦
+          let e : length old ≡ suc k = elim (ordered (suc k) (length old)) [
+            | inl g ↦ absurd (omega (arith, to g))
+            | inr g ↦ omega arith
+          ] in
+          edit-line place old .1 (rw e h) ∙ omega arith
+    ]
 
 -- f, where it is not 0, is before the line which holds the place, and is not line 0
 pub before-place : (place : ℕ) (old : List Line) (n : ℕ) → suc n ≡ firstRedone place old →

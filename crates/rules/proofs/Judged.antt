@@ -1,7 +1,7 @@
 -- What an answer to records tells of them: 0 that a breaking exists, with the line count; 10 that none does; either
 -- that 8 and 9 are not due.
 -- Assumes nothing.
-use mathlib.Core.Path.{_≡_, refl, sym}
+use mathlib.Core.Path.{_≡_, refl, sym, ap, _∙_}
 use Prim.Native.Nat.{ℕ}
 use native.Mathlib.Omega.{arith}
 use mathlib.Core.List.{List}
@@ -46,6 +46,10 @@ module _ (m x : ℕ) (rs : List Rec) where
       (noBreaking m x (units rs) ≡ none) × (judged m x rs ≡ says 0 (length (compose m x (units rs))))
   unfolding judged
   judged-0 e = by-0 (badRecord 0 rs) (groupFault rs) _ _ e
+
+  -- an accepted paragraph is answered by its line count
+  pub line-count : (p : ℕ) → judged m x rs ≡ says 0 p → p ≡ length (compose m x (units rs))
+  line-count p e = ap (λ a. a .place) (sym e ∙ judged-0 (ap (λ a. a .number) e) .1)
 
   pub judged-10 : judged m x rs .number ≡ 10 → noBreaking m x (units rs) ≡ some (judged m x rs .place)
   unfolding judged

@@ -34,6 +34,7 @@ pub mod GroupedRecords
 pub mod RubyPlaces
 pub mod Words
 pub mod Lengths
+pub mod SlotWords
 pub mod Zeros
 pub mod Claims
 pub mod Bounds

@@ -19,7 +19,7 @@ use Rattle.rules.proofs.Lengths.{composed-few}
 use Rattle.sheet.specs.Meanings.{Spliced}
 use Rattle.sheet.proofs.Tables.{same-number, lacking, passed}
 use Rattle.sheet.proofs.Reading.{number-0, read-slot}
-use Rattle.sheet.proofs.Words.{slot-setting, slot-line-count, slot-lines}
+use Rattle.rules.proofs.SlotWords.{slot-setting, slot-line-count, slot-lines}
 use Rattle.sheet.proofs.OnSlot.{on-entering, on-refusing, on-length, on-slot}
 use Rattle.sheet.proofs.Alike.{called-alike}
 use Rattle.sheet.proofs.SlotChanges.{slot-judged, length-edit-slot, slot-accepted, slot-spliced}

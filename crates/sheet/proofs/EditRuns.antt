@@ -18,7 +18,7 @@ use Rattle.rules.specs.Meanings.{All, Choice, Fits, FirstWide, RubyPlaced}
 use Rattle.rules.proofs.RubyPlaces.{rubies-placed}
 use Rattle.sheet.specs.Book.{reads, call-on, read-reply}
 use Rattle.sheet.specs.Meanings.{NoEarlier, Spliced}
-use Rattle.sheet.proofs.Words.{records-again}
+use Rattle.rules.proofs.SlotWords.{records-again}
 use Rattle.sheet.proofs.Changes.{accepted-edit, read-after}
 use Rattle.sheet.proofs.Exactly.{found-0, exactly-0, exactly-10, place-10}
 use Rattle.sheet.proofs.Runs.{EditRun, caller, slot, place, deleted, inserted, answer, slotBefore, slotAfter}

@@ -19,7 +19,7 @@ use Rattle.rules.specs.Meanings.{All, all-none, all-more}
 use Rattle.rules.proofs.Facts.{tested, ordered, some-none}
 use Rattle.sheet.specs.Book.{BookSlot, bookAt, emptySlots, encodeSlot, encode}
 use Rattle.sheet.proofs.Entry.{clinic-at}
-use Rattle.sheet.proofs.Words.{length-slot, slot-setting, slot-fresh}
+use Rattle.rules.proofs.SlotWords.{length-slot, slot-setting, slot-fresh}
 
 -- Well-formed books -------------------------------------------------------------------------------------------------
 

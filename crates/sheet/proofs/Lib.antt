@@ -10,7 +10,6 @@ pub mod Reading
 pub mod ReadOnSlot
 pub mod Lists
 pub mod Fresh
-pub mod Words
 pub mod Encode
 pub mod AnswerFour
 pub mod Slots

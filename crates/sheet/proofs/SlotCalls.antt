@@ -14,7 +14,7 @@ use Rattle.sheet.specs.Book.{SlotCall, edits, reads, edit-reply, read-re
 use Rattle.sheet.specs.Book.{BookSlot, bookEditRows, bookEdit, bookLines, inBook, encodeSlot}
 use Rattle.sheet.proofs.Tables.{passed}
 use Rattle.sheet.proofs.OnSlot.{KeepsLength, RefusesUnchanged}
-use Rattle.sheet.proofs.Words.{slot-line-count, slot-lines}
+use Rattle.rules.proofs.SlotWords.{slot-line-count, slot-lines}
 use Rattle.sheet.proofs.Encode.{Sound}
 use Rattle.sheet.proofs.Slots.{bookAnswer, edited-sound, slot-edits}
 use Rattle.sheet.proofs.SlotChanges.{length-edit-slot, slot-refused}

@@ -23,7 +23,7 @@ use Rattle.rules.proofs.Judged.{judged-0}
 use Rattle.sheet.specs.Meanings.{Spliced}
 use Rattle.sheet.proofs.Tables.{same-number, lacking, passed, under-table}
 use Rattle.sheet.proofs.Lengths.{or-right}
-use Rattle.sheet.proofs.Words.{length-slot, slot-records}
+use Rattle.rules.proofs.SlotWords.{length-slot, slot-records}
 use Rattle.sheet.proofs.Slots.{splice-few}
 
 module _ (s : List ℕ) (place deleted : ℕ) (inserted : List ℕ) where

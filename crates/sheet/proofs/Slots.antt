@@ -22,8 +22,8 @@ use Rattle.sheet.specs.Book.{encodeSlot, freshSlot, singleOf, single}
 use Rattle.rules.proofs.Words.{length-records}
 use Rattle.sheet.proofs.Tables.{passed}
 use Rattle.sheet.proofs.Lengths.{or-right}
-use Rattle.sheet.proofs.Words.{length-record-words, records-again}
-use Rattle.sheet.proofs.Words.{slot-setting, slot-measure, slot-indent, slot-count, slot-records, slot-fresh}
+use Rattle.rules.proofs.SlotWords.{length-record-words, records-again}
+use Rattle.rules.proofs.SlotWords.{slot-setting, slot-measure, slot-indent, slot-count, slot-records, slot-fresh}
 use Rattle.sheet.proofs.Encode.{Sound, sound-none}
 
 -- The splice --------------------------------------------------------------------------------------------------------

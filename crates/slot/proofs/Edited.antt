@@ -15,6 +15,7 @@ use Rattle.compose.specs.Paragraph.{size, paragraph}
 use Rattle.slot.specs.Slot.{spliced, Replaceable}
 use Rattle.slot.proofs.Stored.{old-room}
 use Rattle.slot.proofs.Spliced.{spliced-records, length-spliced}
+use Rattle.rules.proofs.Words.{length-records}
 use Rattle.rules.proofs.Zeros.{length-zeros, drop-zeros}
 
 module _ (s : List ℕ) (p d : ℕ) (ins : List ℕ) (len : length s ≡ 2824) (few : countOf s ≤ 256)
@@ -67,6 +68,7 @@ module _ (s : List ℕ) (p d : ℕ) (ins : List ℕ) (len : length s ≡ 2824) (
     pub replaceable : limitsOk (measureOf s) (indentOf s) ≡ true →
         Replaceable s list ((countOf s - d) * 6 + length ins)
     pub records : paragraph (take ((countOf s - d) * 6 + length ins) list) ≡ edited s p d ins
+    pub new-few : length (edited s p d ins) ≤ 256
 
   pub new-list : (list : List ℕ) →
       list ≡
@@ -99,4 +101,5 @@ module _ (s : List ℕ) (p d : ℕ) (ins : List ℕ) (len : length s ≡ 2824) (
         records =
             ap (λ w. paragraph (take total w)) f
             ∙ ap (λ w. paragraph w) (take-at list-words (drop total (zeros 1536)) total length-words) ∙ records-words;
+        new-few = rw (← records-words) (omega (arith, length-records list-words 0 (size list-words), length-words));
       }

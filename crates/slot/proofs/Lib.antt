@@ -5,3 +5,5 @@ pub mod Stored
 pub mod Outcomes
 pub mod Replaced
 pub mod Edited
+pub mod Report
+pub mod Counted

@@ -12,6 +12,10 @@ pub paste-at : (p d s : List ℕ) (at n : ℕ) → length p ≡ at → length s 
     paste (p ++ d) at s n ≡ p ++ (s ++ drop n d)
 paste-at p d s at n ep es = rw (← ep, ← es, take-append-seam, take-length, drop-append-add, append-assoc)
 
+-- a part up to the end
+pub to-end : (w : List ℕ) (k : ℕ) → take (length w - k) (drop k w) ≡ drop k w
+to-end w k = take-all (length w - k) (drop k w) (omega (arith, length-drop k w))
+
 -- a list of at least eight has eight first
 eight : (w : List ℕ) → 8 ≤ length w →
     w
@@ -46,7 +50,7 @@ splices list ws ins l₁ l₂ l₃ b e hb he h₁ h₂ h₃ =
     let z : b - 0 ≡ b = omega arith in
     let hA : length (take b ws) ≡ b = length-take-le b ws (omega arith) in
     let hC : length (drop e ws) ≡ length ws - e = length-drop e ws in
-    let eC : take (length ws - e) (drop e ws) ≡ drop e ws = take-all (length ws - e) (drop e ws) (omega arith) in
+    let eC = to-end ws e in
     let s₁ : l₁ ≡ take b ws ++ drop b list =
     rw (z, hA) at (h₁ ∙ paste-at [] list (take (b - 0) ws) 0 (length (take (b - 0) ws)) refl refl) in
     let s₂ : l₂ ≡ (take b ws ++ ins) ++ drop (length ins) (drop b list) =

@@ -2,6 +2,7 @@
 use mathlib.Core.Path.{_≡_, sym, ap, _∙_}
 use mathlib.Core.List.{List, _++_, append-assoc}
 use mathlib.Core.Bool.{true}
+use mathlib.Core.Logic.{inl, inr}
 use Prim.Native.Nat.{ℕ, _-_, _*_, _/_, _≤_}
 use native.Mathlib.Omega.{arith}
 use lib.Dec.{eqb}
@@ -15,10 +16,12 @@ use Rattle.rules.specs.Groups.{units}
 use Rattle.rules.specs.Adjustment.{compose}
 use Rattle.rules.specs.Sheet.{Setting, head, slotWords, placeWords, lineWords, measureOf, indentOf, settingOf}
 use Rattle.rules.specs.Refusals.{Answer, Outcome, says, judged}
+use Rattle.rules.proofs.Facts.{tested}
 use Rattle.rules.proofs.Zeros.{drop-zeros}
-use Rattle.rules.proofs.Judged.{judged-0}
+use Rattle.rules.proofs.Judged.{line-count}
 use Rattle.rules.proofs.Words.{words-records, length-records}
 use Rattle.rules.proofs.Lengths.{composed-places, composed-lines, composed-few}
+use Rattle.rules.proofs.SlotWords.{length-slot}
 use Rattle.compose.specs.Paragraph.{size, paragraph}
 use Rattle.compose.specs.Composed.{Composed}
 use Rattle.slot.specs.Slot.{headOf, replaced, Replaceable}
@@ -32,11 +35,6 @@ refused-slot s rs number place z e = rw (e, ne-eqb number 0 z)
 -- words at the front of zeros
 padded-paste : (n k : ℕ) (ws : List ℕ) → length ws ≡ k → k ≤ n → paste (zeros n) 0 ws k ≡ padded n ws
 padded-paste n k ws e h = rw (← e, take-length, zero-add) (ap (λ l. ws ++ l) (drop-zeros n (length ws) (omega arith)))
-
--- an accepted paragraph is answered by its line count
-line-count : (m x : ℕ) (rs : List Rec) (p : ℕ) → judged m x rs ≡ says 0 p → p ≡ length (compose m x (units rs))
-line-count m x rs p e =
-    ap (λ a. a .place) (sym e ∙ judged-0 m x rs (ap (λ a. a .number) e) .1)
 
 regrouped : (p l q s : List ℕ) → p ++ (l ++ (q ++ s)) ≡ p ++ l ++ q ++ s
 regrouped p l q s = simp append-assoc
@@ -92,3 +90,26 @@ module _ (s list : List ℕ) (total : ℕ) (h : Replaceable s list total) where
       let t : total / 6 ≡ length rs = omega (arith, six, n) in
       let e : eqb (judged m x rs .number) 0 ≡ true = rw (c .answer, z) in
       rw (e, c .answer) (ap (λ o. (says number place, o)) (w ∙ assembled (settingOf s) t k list-padded p l))
+
+  -- refused or not, the slot keeps its length
+  pub replaced-length : length (replaced s (paragraph ws) .1) ≡ 2824
+  unfolding replaced
+  replaced-length =
+      let rs = paragraph ws in
+      let few : length rs ≤ 256 = omega (arith, replaced-few, length-records ws 0 (size ws)) in
+      elim (tested (eqb (judged (measureOf s) (indentOf s) rs .number) 0)) [
+        | inl e ↦ rw e (length-slot (settingOf s) rs few)
+        | inr e ↦ rw e (h .slot)
+      ]
+
+-- what an accepted replacement leaves
+pub accepted-words : (s : List ℕ) (rs : List Rec) (number place : ℕ) (words : List ℕ) → number ≡ 0 →
+    _≡_ {A = Outcome Answer} (says number place, words) (replaced s rs) →
+    (place ≡ length (compose (measureOf s) (indentOf s) (units rs))) × (words ≡ slotWords (settingOf s) rs)
+unfolding replaced
+accepted-words s rs number place words z e =
+    let a : judged (measureOf s) (indentOf s) rs ≡ says 0 place =
+    sym (ap (λ (o : Outcome Answer). o .0) e) ∙ ap (λ n. says n place) z in (
+      line-count (measureOf s) (indentOf s) rs place a,
+      ap (λ (o : Outcome Answer). o .1) e ∙ rw a,
+    )

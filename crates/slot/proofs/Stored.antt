@@ -5,18 +5,21 @@ use mathlib.Core.Bool.{Bool, true, false, cond, _&&_}
 use Prim.Native.Nat.{ℕ, _+_, _-_, _*_, _≤_, _<_}
 use native.Mathlib.Omega.{arith}
 use lib.Dec.{leb, ltb, eqb}
-use lib.ListN.{length, take, drop, length-drop}
+use lib.ListN.{length, take, drop, getD, length-drop}
 use lib.Seq.{length-take-le}
-use borrow.Author.Tests.{leb-true, ltb-true, le-leb, lt-leb}
+use borrow.Author.Tests.{leb-true, ltb-true, le-leb, lt-leb, ne-eqb}
 use Rattle.rules.specs.Basics.{within}
 use Rattle.rules.specs.Records.{records}
 use Rattle.rules.specs.Sheet.{measureOf, indentOf, countOf, recordsOf, limitsOk}
-use Rattle.rules.specs.Refusals.{judged, sound}
+use Rattle.rules.specs.Refusals.{says, judged, sound}
+use Rattle.rules.specs.Stable.{start}
 use Rattle.rules.proofs.Bounds.{within-high}
 use Rattle.rules.proofs.Limits.{and-left, and-right}
 use Rattle.rules.proofs.Words.{records-take}
+use Rattle.rules.proofs.Judged.{line-count}
 use Rattle.compose.specs.Paragraph.{size, paragraph}
 use Rattle.compose.specs.Composed.{Fitting}
+use Rattle.slot.specs.Slot.{linesOf, StoredLines}
 
 -- measure and indent within limits
 pub limits-measure : (m x : ℕ) → limitsOk m x ≡ true → m ≤ 1000000
@@ -83,11 +86,34 @@ module _ (s : List ℕ) where
       leb-true (countOf s) 256 (and-right (limitsOk (measureOf s) (indentOf s)) (leb (countOf s) 256)
       (and-left (limitsOk (measureOf s) (indentOf s) && leb (countOf s) 256) _ e))
 
+-- what is told of a slot's lines
+pub stored-damaged : (s starts : List ℕ) (number place : ℕ) → sound s ≡ false → (number ≡ 4) × (place ≡ 0) →
+    StoredLines s starts number place
+stored-damaged s starts number place a e =
+    record { answer = rw a (e .0); lines = λ z. absurd (omega (arith, e .0)) }
+
+pub refused-sound : (s : List ℕ) (number place : ℕ) →
+    sound s ≡ eqb (judged (measureOf s) (indentOf s) (recordsOf s) .number) 0 →
+    judged (measureOf s) (indentOf s) (recordsOf s) ≡ says number place → (number ≡ 0 → ⊥) → sound s ≡ false
+refused-sound s number place t a z = t ∙ rw a (ne-eqb number 0 z)
+
+pub stored-sound : (s starts : List ℕ) (number place : ℕ) →
+    sound s ≡ eqb (judged (measureOf s) (indentOf s) (recordsOf s) .number) 0 →
+    judged (measureOf s) (indentOf s) (recordsOf s) ≡ says number place → number ≡ 0 →
+    ((j : ℕ) → j < place → getD starts j 0 ≡ start j (linesOf s)) → StoredLines s starts number place
+stored-sound s starts number place t a z f =
+    let b : sound s ≡ true = t ∙ rw (a, z) in
+    record {
+      answer = rw b z;
+      lines = λ y.
+          record { count = line-count (measureOf s) (indentOf s) (recordsOf s) place (rw z at a); first = f };
+    }
+
 -- the number of answer 4, or 0, by whether the slot is sound
 pub stored-0 : (b : Bool) {n : ℕ} → n ≡ cond b 0 4 → n ≡ 0 → b ≡ true
 stored-0 true e z = refl
 stored-0 false e z = let y : ⊥ = omega arith in absurd y
 
-pub stored-4 : (b : Bool) {n : ℕ} → n ≡ cond b 0 4 → (n ≡ 0 → ⊥) → (n ≡ 4) × (b ≡ false)
+pub stored-4 : (b : Bool) {n : ℕ} → n ≡ cond b 0 4 → (n ≡ 0 → ⊥) → b ≡ false
 stored-4 true e z = absurd (z e)
-stored-4 false e z = (e, refl)
+stored-4 false e z = refl

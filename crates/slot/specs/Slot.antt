@@ -2,6 +2,7 @@
 --
 --   head of      the eight words of a head, with the slot's setting and other counts
 --   spliced      the words of a record list with a stretch replaced
+--   stored lines    answer 4, or 0 and the lines that the rules give the slot's records, by their first records
 --   replaced     what becomes of a slot whose records are to be others: the answer, and the slot's words
 --
 -- Assumes nothing.
@@ -13,8 +14,11 @@ use lib.Dec.{eqb}
 use lib.ListN.{length, take, drop}
 use Rattle.rules.specs.Basics.{zeros}
 use Rattle.rules.specs.Records.{Rec}
-use Rattle.rules.specs.Sheet.{head, slotWords, measureOf, indentOf, settingOf, limitsOk}
-use Rattle.rules.specs.Refusals.{Answer, Outcome, judged}
+use Rattle.rules.specs.Groups.{units}
+use Rattle.rules.specs.Adjustment.{Line, compose}
+use Rattle.rules.specs.Sheet.{head, slotWords, measureOf, indentOf, settingOf, recordsOf, limitsOk}
+use Rattle.rules.specs.Refusals.{Answer, Outcome, judged, sound}
+use Rattle.slot.specs.Redone.{Starts}
 
 abbrev pub headOf : List ℕ → ℕ → ℕ → List ℕ
 headOf s n lines = head (settingOf s) n lines
@@ -27,6 +31,14 @@ spliced ws before after inserted = take before ws ++ (inserted ++ drop after ws)
 abbrev pub splicedInto : List ℕ → List ℕ → ℕ → ℕ → List ℕ → List ℕ
 splicedInto list ws before after inserted =
     spliced ws before after inserted ++ drop (before + length inserted + (length ws - after)) list
+
+-- the lines that the rules give a slot's records
+abbrev pub linesOf : List ℕ → List Line
+linesOf s = compose (measureOf s) (indentOf s) (units (recordsOf s))
+
+pub record StoredLines (s starts : List ℕ) (number place : ℕ) : Type 0 where
+  pub answer : number ≡ cond (sound s) 0 4
+  pub lines : number ≡ 0 → Starts starts place (linesOf s)
 
 unfoldable pub replaced : List ℕ → List Rec → Outcome Answer
 replaced s rs =

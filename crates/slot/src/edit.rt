@@ -1,10 +1,11 @@
 // An edit of one slot: answers 4 to 10, and every word of the slot written where it is accepted.
 ghost use mathlib.Core.Path.{_≡_};
-ghost use mathlib.Core.Bool.{cond};
 ghost use lib.ListN.{length, take};
-ghost use Rattle.rules.specs.Refusals.{says, editSays, sound, editSlot};
+ghost use Rattle.rules.specs.Refusals.{says, editSays, editSlot};
 ghost use Rattle.compose.specs.Paragraph.{paragraph};
-ghost use Rattle.slot.specs.Slot.{replaced, Replaceable};
+ghost use Rattle.slot.specs.Redone.{Countable, Counted};
+ghost use Rattle.slot.specs.Slot.{StoredLines, replaced, Replaceable};
+use crate::redone::lines_redone;
 use crate::words::splice;
 use crate::words::write_slot;
 use compose::Answer;
@@ -12,51 +13,55 @@ use compose::check;
 use compose::compose;
 use rules::limits_ok;
 
-// A number and a place, as document 01's table of refusals has them for an edit. It is apart from set-up's answer, so
-// that an edit can tell more.
+// A number and a place, as document 01's table of refusals has them for an edit, and the lines composed anew. A
+// refused edit has composed none.
 #[repr(C)]
 pub struct EditAnswer {
     pub number: u32,
     pub place: u32,
+    pub redone: u32,
 }
 
 fn refusal(number: u32, place: u32) -> EditAnswer
-    ensures { λ r. ⌜ (r .number ≡ number) × (r .place ≡ place) ⌝ }
+    ensures { λ r. ⌜ (r .number ≡ number) × (r .place ≡ place) × (r .redone ≡ 0) ⌝ }
 {
     EditAnswer {
         number: number,
         place: place,
+        redone: 0,
     }
 }
 
-// Whether answer 4 does not apply to a slot.
-fn is_sound(words: &[u32]) -> bool
+fn damaged() -> Answer
+    ensures { λ r. ⌜ (r .number ≡ 4) × (r .place ≡ 0) ⌝ }
+{
+    Answer {
+        number: 4,
+        place: 0,
+    }
+}
+
+// Answer 4, or 0 and how many lines the slot's records have: then the first record of each stands in `starts`. A
+// function of its own, so that a damaged slot is turned away before the frame of the new record list is made.
+fn stored_lines(words: &[u32], starts: &mut [u32; 256]) -> Answer
     requires { ⌜ length (now words) ≡ 2824 ⌝ }
-    ensures { λ b. ⌜ b ≡ sound (now (words .entry)) ⌝ }
+    ensures { λ r. ⌜ StoredLines (now (words .entry)) (now (starts .exit)) (r .number) (r .place) ⌝ }
 {
     let m = words[1];
     let x = words[2];
     let count = words[3];
     if !limits_ok(m, x) {
-        return false;
+        return damaged();
     }
     if 256 < count {
-        return false;
+        return damaged();
     }
     let end = 8 + 6 * count as usize;
-    check(&words[8..end], m, x)
-}
-
-// 4 where answer 4 applies to a slot, or 0. A function of its own, so that a damaged slot is turned away before the
-// frame of the new record list is made.
-fn stored_answer(words: &[u32]) -> u32
-    requires { ⌜ length (now words) ≡ 2824 ⌝ }
-    ensures { λ n. ⌜ n ≡ cond (sound (now (words .entry))) 0 4 ⌝ }
-{
-    if !is_sound(words) {
-        return 4;
+    let a = check(&words[8..end], m, x, starts);
+    if a.number != 0 {
+        return damaged();
     }
-    0
+    a
 }
 
 // Composes the first `total` words of `list` as the slot's records and, where they are accepted, writes the slot.
@@ -76,16 +81,52 @@ fn replace(words: &mut [u32], list: &[u32], total: usize) -> Answer
     a
 }
 
+// An edit's answer, where `a` is the new records': with the lines composed anew, where they are accepted. Old lines
+// start as `starts` has it, new ones as the slot's words do.
+fn counted(
+    a: Answer,
+    starts: &[u32; 256],
+    old_lines: u32,
+    words: &[u32],
+    place: u32,
+    deleted: u32,
+    inserted: usize,
+) -> EditAnswer
+    requires { ⌜ (length (now words) ≡ 2824)
+        × (a .number ≡ 0 → Countable «old_lines» (a .place) place deleted inserted) ⌝ }
+    ensures { λ r. ⌜ Counted (now (starts .entry)) «old_lines» (now (words .entry)) (a .number) (a .place)
+        place deleted inserted (r .number) (r .place) (r .redone) ⌝ }
+{
+    if a.number != 0 {
+        return refusal(a.number, a.place);
+    }
+    let redone = lines_redone(
+        starts,
+        old_lines as usize,
+        &words[2056..],
+        a.place as usize,
+        place as usize,
+        deleted as usize,
+        inserted,
+    );
+    EditAnswer {
+        number: 0,
+        place: a.place,
+        redone: redone as u32,
+    }
+}
+
 // One slot's edit: `deleted` records go out at `place`, and the inserted ones come in there. The new record list is
 // held in a local until every check has passed.
 pub fn edit_slot(words: &mut [u32], place: u32, deleted: u32, inserted: &[u32]) -> EditAnswer
     requires { ⌜ length (now words) ≡ 2824 ⌝ }
-    ensures { λ r. ⌜ (editSays (r .number) (r .place), now (words .exit)) ≡
+    ensures { λ r. ⌜ (editSays (r .number) (r .place) (r .redone), now (words .exit)) ≡
         editSlot (now (words .entry)) place deleted (now (inserted .entry)) ⌝ }
 {
-    let stored = stored_answer(words);
-    if stored != 0 {
-        return refusal(stored, 0);
+    let mut starts = [0u32; 256];
+    let stored = stored_lines(words, &mut starts);
+    if stored.number != 0 {
+        return refusal(4, 0);
     }
     let count = words[3];
     if count < place {
@@ -112,8 +153,5 @@ pub fn edit_slot(words: &mut [u32], place: u32, deleted: u32, inserted: &[u32]) 
         inserted,
     );
     let a = replace(words, &list, kept + n);
-    EditAnswer {
-        number: a.number,
-        place: a.place,
-    }
+    counted(a, &starts, stored.place, words, place, deleted, n / 6)
 }

@@ -1,5 +1,6 @@
 // One slot of a sheet: its 2,824 words as a lent slice.
 mod edit;
+mod redone;
 mod words;
 
 pub use compose::Answer;

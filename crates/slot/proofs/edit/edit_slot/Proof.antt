@@ -2,15 +2,19 @@
 -- nothing.
 use mathlib.Core.Path.{_≡_, ap, sym, _∙_}
 use mathlib.Core.Bool.{true}
-use Prim.Native.Nat.{_+_, _≤_}
+use Prim.Native.Nat.{_+_, _-_, _*_, _≤_}
 use native.Mathlib.Omega.{arith}
+use lib.ListN.{length}
 use denote.Ref.{now}
 use Rattle.rules.specs.Basics.{zeros}
 use Rattle.rules.specs.Sheet.{countOf}
-use Rattle.rules.specs.Refusals.{Answer, asEdit, Outcome, sound}
-use Rattle.slot.specs.Slot.{replaced}
+use Rattle.rules.specs.Refusals.{Answer, says, Outcome, sound, edited}
+use Rattle.slot.specs.Redone.{Starts}
+use Rattle.slot.specs.Slot.{linesOf, replaced, Replaceable}
+use Rattle.slot.proofs.Replaced.{replaced-length}
+use Rattle.slot.proofs.Counted.{countable, counted-answer}
 use Rattle.slot.proofs.Stored.{sound-limits, sound-count, stored-0, stored-4}
-use Rattle.slot.proofs.Outcomes.{answers, refuses-4, refuses-5, refuses-5-end, refuses-6, refuses-7, replaces}
+use Rattle.slot.proofs.Outcomes.{refusals, refuses-4, refuses-5, refuses-5-end, refuses-6, refuses-7, replaces}
 use Rattle.slot.proofs.Edited.{NewList, new-list}
 use borrow.Author.Needs.{needs}
 use Rattle.slot.proofs.edit.edit_slot.Statement.{statement}
@@ -18,7 +22,7 @@ use Rattle.slot.proofs.edit.edit_slot.Tie as tie
 
 -- the function's entry, from places past answers 4 and 5 and past the splice
 abbrev past-4 : tie.Else1 → tie.Start
-past-4 c = c .before .before .before .before .before
+past-4 c = c .before .before .before .before .before .before .before
 
 abbrev past-5 : tie.Else3 → tie.Start
 past-5 c = past-4 (c .before .before .before)
@@ -28,7 +32,7 @@ spliced c = past-5 (c .before .before .before .before .before .before)
 
 -- past answer 4 the slot is sound
 is-sound-at : (c : tie.Else1) → sound (now (past-4 c .args .words)) ≡ true
-is-sound-at c = stored-0 _ (c .before .stored-answer .ensures) (c .if1 .left)
+is-sound-at c = stored-0 _ (c .before .before .stored-lines .ensures .answer) (c .if1 .left)
 
 few-at : (c : tie.Else1) → countOf (now (past-4 c .args .words)) ≤ 256
 few-at c = sound-count (now (past-4 c .args .words)) (is-sound-at c)
@@ -54,33 +58,35 @@ new-list-at c = new-list _ _ _ _ _ _ _ _ _ _ (c .splice .ensures)
 
 returns : tie.Need-returns
 returns c =
-    let a = c .before .before .before .before .before .before .args in
-    let e = stored-4 _ (c .before .before .stored-answer .ensures) (c .before .if1 .taken) in
-    answers 4 0 _ _ (now (a .words)) _ (c .refusal .ensures .0 ∙ e .0, c .refusal .ensures .1)
-    (refuses-4 (now (a .words)) (a .place) (a .deleted) (now (a .inserted)) (e .1))
+    let d = c .before in
+    let a = d .before .before .before .before .before .before .before .args in
+    let b = stored-4 _ (d .before .before .stored-lines .ensures .answer) (d .if1 .taken) in
+    refusals 4 0 _ _ _ (now (a .words)) _ (c .refusal .ensures)
+    (refuses-4 (now (a .words)) (a .place) (a .deleted) (now (a .inserted)) b)
 
 returns-2 : tie.Need-returns-2
 returns-2 c =
-    let a = c .before .before .before .before .before .before .before .before .args in
-    answers 5 (countOf (now (a .words))) _ _ (now (a .words)) _ (c .refusal2 .ensures)
-    (refuses-5 (now (a .words)) (a .place) (a .deleted) (now (a .inserted)) (is-sound-at (c .before .before .before))
-    (c .before .if2 .taken))
+    let four = c .before .before .before in
+    let a = past-4 four .args in
+    refusals 5 (countOf (now (a .words))) _ _ _ (now (a .words)) _ (c .refusal2 .ensures)
+    (refuses-5 (now (a .words)) (a .place) (a .deleted) (now (a .inserted)) (is-sound-at four) (c .before .if2 .taken))
 
 returns-3 : tie.Need-returns-3
 returns-3 c =
-    let a = c .before .before .before .before .before .before .before .before .before .args in
-    answers 5 (countOf (now (a .words))) _ _ (now (a .words)) _ (c .refusal3 .ensures)
-    (refuses-5-end (now (a .words)) (a .place) (a .deleted) (now (a .inserted))
-    (is-sound-at (c .before .before .before .before)) (c .before .before .if2 .left)
-    (omega (arith, c .before .if3 .taken, c .before .before .if2 .left)))
+    let d = c .before .before in
+    let four = d .before .before in
+    let a = past-4 four .args in
+    refusals 5 (countOf (now (a .words))) _ _ _ (now (a .words)) _ (c .refusal3 .ensures)
+    (refuses-5-end (now (a .words)) (a .place) (a .deleted) (now (a .inserted)) (is-sound-at four) (d .if2 .left)
+    (omega (arith, c .before .if3 .taken, d .if2 .left)))
 
 returns-4 : tie.Need-returns-4
 returns-4 c =
-    let a = c .before .before .before .before .before .before .before .before .before .before .args in
-    answers 6 0 _ _ (now (a .words)) _ (c .refusal4 .ensures)
-    (refuses-6 (now (a .words)) (a .place) (a .deleted) (now (a .inserted))
-    (is-sound-at (c .before .before .before .before .before)) (within-at (c .before .before))
-    (c .before .if4 .taken))
+    let five = c .before .before in
+    let a = past-5 five .args in
+    refusals 6 0 _ _ _ (now (a .words)) _ (c .refusal4 .ensures)
+    (refuses-6 (now (a .words)) (a .place) (a .deleted) (now (a .inserted)) (is-sound-at (five .before .before .before))
+    (within-at five) (c .before .if4 .taken))
 
 cast-kept : tie.Need-cast-kept
 cast-kept c = omega (arith, few-at (c .before .before .before .before))
@@ -93,45 +99,73 @@ add-if5 c = omega (arith, few-at (c .before .before .before .before))
 
 returns-5 : tie.Need-returns-5
 returns-5 c =
-    let a = c .before .before .before .before .before .before .before .before .before .before .before .args in
-    answers 7 0 _ _ (now (a .words)) _ (c .refusal5 .ensures)
-    (refuses-7 (now (a .words)) (a .place) (a .deleted) (now (a .inserted))
-    (is-sound-at (c .before .before .before .before .before .before)) (within-at (c .before .before .before))
-    (c .before .before .if4 .left)
-    (omega (arith, c .before .if5 .taken, c .before .before .if4 .left)))
+    let six = c .before .before in
+    let five = six .before in
+    let a = past-5 five .args in
+    refusals 7 0 _ _ _ (now (a .words)) _ (c .refusal5 .ensures)
+    (refuses-7 (now (a .words)) (a .place) (a .deleted) (now (a .inserted)) (is-sound-at (five .before .before .before))
+    (within-at five) (six .if4 .left) (omega (arith, c .before .if5 .taken, six .if4 .left)))
 
 part-splice-end : tie.Need-part-splice-end
 part-splice-end c =
-    omega (
-      arith,
-      few-at (c .before .before .before .before .before .before .before),
-      past-4 (c .before .before .before .before .before .before .before) .pre,
-    )
+    let four = c .before .before .before .before .before .before .before in
+    omega (arith, few-at four, past-4 four .pre)
 
 add-splice : tie.Need-add-splice
 add-splice c =
-    omega (
-      arith,
-      few-at (c .before .before .before .before .before .before .before .before),
-      within-at
-          (c .before .before .before .before .before),
-    )
+    let five = c .before .before .before .before .before in
+    omega (arith, few-at (five .before .before .before), within-at five)
+
+-- the list, the function's entry, and the slot's soundness, from where the list is made
+replaceable-at : (c : tie.After-splice) →
+    let a = spliced c .args in
+    let w = now (a .words) in
+    Replaceable w (c .splice .last .0) ((countOf w - a .deleted) * 6 + length (now (a .inserted)))
+replaceable-at c =
+    let four = c .before .before .before .before .before .before .before .before .before in
+    new-list-at c .replaceable (sound-limits (now (spliced c .args .words)) (is-sound-at four))
 
 replace-requires : tie.Need-replace-requires
-replace-requires c κs =
-    let s = c .before .before .before in
-    let four = s .before .before .before .before .before .before .before .before .before in
-    new-list-at s .replaceable (sound-limits (now (spliced s .args .words)) (is-sound-at four))
+replace-requires c κs = replaceable-at (c .before .before .before)
+
+-- the old lines' first records, and what becomes of the slot
+starts-at : (c : tie.Else1) →
+    let k = c .before .before .stored-lines in
+    Starts (k .last .1 .0) (k .result .place) (linesOf (now (past-4 c .args .words)))
+starts-at c = c .before .before .stored-lines .ensures .lines (c .if1 .left)
+
+replaced-at : (c : tie.After-replace) →
+    let a = spliced (c .before .before .before .before) .args in
+    _≡_ {A = Outcome Answer} (says (c .replace .result .number) (c .replace .result .place), c .replace .last .0)
+    (replaced (now (a .words)) (edited (now (a .words)) (a .place) (a .deleted) (now (a .inserted))))
+replaced-at c =
+    let s = c .before .before .before .before in
+    c .replace .ensures ∙ ap (replaced (now (spliced s .args .words))) (new-list-at s .records)
+
+counted-requires : tie.Need-counted-requires
+counted-requires c κs =
+    let r = c .before .before .before .before in
+    let s = r .before .before .before .before in
+    let seven = s .before .before .before .before in
+    let five = seven .before .before in
+    let four = five .before .before .before in
+    let a = spliced s .args in (
+      ap (λ (o : Outcome Answer). length (o .1)) (r .replace .ensures)
+          ∙ replaced-length (now (a .words)) _ _ (replaceable-at s),
+      countable (now (a .words)) (a .place) (a .deleted) (now (a .inserted)) (few-at four) (new-list-at s .new-few) _ _ _ _
+          (within-at five) (omega (arith, seven .if5 .left)) (starts-at four .count) (replaced-at r),
+    )
 
 returns-6 : tie.Need-returns-6
 returns-6 c =
-    let s = c .before .before .before .before .before .before in
+    let r = c .before .before .before .before .before in
+    let s = r .before .before .before .before in
     let seven = s .before .before .before .before in
     let five = seven .before .before in
     let four = five .before .before .before in
     let a = spliced s .args in
-    ap (λ (o : Outcome Answer). (asEdit (o .0), o .1))
-    (c .before .before .replace .ensures ∙ ap (replaced (now (a .words))) (new-list-at s .records))
+    counted-answer (now (a .words)) (a .place) (a .deleted) (now (a .inserted)) (few-at four) (new-list-at s .new-few) _ _ _ _
+    _ _ _ _ (starts-at four) (replaced-at r) (c .counted .ensures)
     ∙ sym
     (replaces (now (a .words)) (a .place) (a .deleted) (now (a .inserted)) (is-sound-at four) (within-at five)
     (seven .before .if4 .left)
@@ -177,5 +211,6 @@ edit-slot-spec =
     (λ c. search needs)
     (λ c. search needs)
     replace-requires
+    counted-requires
     (λ c. search needs)
     returns-6)

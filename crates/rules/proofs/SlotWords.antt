@@ -1,21 +1,22 @@
--- A slot's words: how many there are, and what is read back from them. Laws of crate `rules` alone. Assumes nothing.
+-- A slot's words: how many there are, and what is read back from them. Assumes nothing.
 use mathlib.Core.Path.{_≡_, refl, sym, ap, _∙_}
-use Prim.Native.Nat.{ℕ, suc, _+_, _-_, _*_, _/_, _≤_}
+use Prim.Native.Nat.{ℕ, zero, suc, _+_, _-_, _*_, _/_, _≤_, _<_}
 use native.Mathlib.Nat.{add-zero}
 use native.Mathlib.Omega.{arith}
 use mathlib.Core.List.{List, [], _∷_, _++_, append-assoc, append-nil}
 use lib.ListN.{length, getD, take, drop, length-append}
-use lib.Seq.{getD-append-add, take-at, drop-at}
+use lib.Seq.{getD-append-add, getD-take, take-at, drop-at}
 use Rattle.rules.specs.Basics.{cut, zeros, padded}
 use Rattle.rules.specs.Records.{Rec, recAt, records, recordWords}
 use Rattle.rules.specs.Groups.{units}
 use Rattle.rules.specs.Breaks.{runs, breaking}
 use Rattle.rules.specs.Adjustment.{Line, linesOf, compose}
 use Rattle.rules.specs.Sheet.{Setting, placeWords, lineWords, head, slotWords, fresh}
 use Rattle.rules.specs.Sheet.{measureOf, indentOf, settingOf, countOf, lineCountOf, recordsOf}
+use Rattle.rules.specs.Stable.{start, Used, usedBy, usedOf}
 use Rattle.rules.proofs.Facts.{cons-path}
 use Rattle.rules.proofs.Zeros.{length-zeros, zeros-append}
 use Rattle.rules.proofs.Lengths.{length-lineWords, composed-places, composed-few}
 
 -- Records as words --------------------------------------------------------------------------------------------------
 
@@ -46,6 +47,17 @@ pub records-again : (rs : List Rec) → records (recordWords rs) 0 (length (reco
 records-again rs =
     let n : length (recordWords rs) / 6 ≡ length rs = omega (arith, length-record-words rs) in
     rw n (ap (λ ws. records ws 0 (length rs)) (sym (append-nil (recordWords rs))) ∙ records-of-words rs [])
+
+-- Lines as words -----------------------------------------------------------------------------------------------------
+
+-- the first record of a line is the first of its words
+line-first : (i : ℕ) (ls : List Line) (j : ℕ) → j < length ls → getD (lineWords i ls) (3 * j) 0 ≡ i + start j ls
+unfolding lineWords start
+line-first i [] j h = absurd (omega arith)
+line-first i (l ∷ ls) zero h = omega arith
+line-first i (l ∷ ls) (suc j) h =
+    let e : 3 * suc j ≡ suc (suc (suc (3 * j))) = omega arith in
+    rw e (omega (arith, line-first (i + l .count) ls j (omega arith)))
 
 -- A slot ------------------------------------------------------------------------------------------------------------
 
@@ -119,12 +131,40 @@ module _ (t : Setting) (rs : List Rec) where
     unfolding slotWords
     length-slot = length-append (first ++ second ++ third) fourth ∙ omega (arith, length-three, length-fourth)
 
-    -- and the used ones of its lines stand from word 2056 on
-    pub slot-lines : take (3 * length lines) (drop 2056 (slotWords t rs)) ≡ lineWords 0 lines
+    -- the used ones of its places stand from word 1544 on
+    pub slot-places : take (2 * length rs) (drop 1544 (slotWords t rs)) ≡ placeWords 0 lines
     unfolding slotWords
+    slot-places =
+        let rest : List ℕ = zeros (512 - length (placeWords 0 lines)) in
+        let parts : slotWords t rs ≡ (first ++ second) ++ (placeWords 0 lines ++ (rest ++ fourth))
+        = append-assoc (first ++ second) third fourth
+        ∙ ap (λ l. (first ++ second) ++ l) (append-assoc (placeWords 0 lines) rest fourth) in
+        let two : length (first ++ second) ≡ 1544 = length-append first second ∙ omega (arith, length-second) in
+        ap (λ w. take (2 * length rs) (drop 1544 w)) parts
+        ∙ ap (take (2 * length rs)) (drop-at (first ++ second) (placeWords 0 lines ++ (rest ++ fourth)) 1544 two)
+        ∙ take-at (placeWords 0 lines) (rest ++ fourth) (2 * length rs) (composed-places (t .measure) (t .indent) rs)
+
+    -- and those of its lines from word 2056 on
+    from-lines : drop 2056 (slotWords t rs) ≡ fourth
+    unfolding slotWords
+    from-lines = drop-at (first ++ second ++ third) fourth 2056 length-three
+
+    pub slot-lines : take (3 * length lines) (drop 2056 (slotWords t rs)) ≡ lineWords 0 lines
     slot-lines =
-        ap (take (3 * length lines)) (drop-at (first ++ second ++ third) fourth 2056 length-three)
+        ap (take (3 * length lines)) from-lines
         ∙ take-at (lineWords 0 lines) _ (3 * length lines) (length-lineWords 0 lines)
+
+    pub slot-used : usedOf (slotWords t rs) ≡ usedBy lines
+    slot-used =
+        let places = ap (λ n. take (2 * n) (drop 1544 (slotWords t rs))) slot-count ∙ slot-places in
+        let words = ap (λ n. take (3 * n) (drop 2056 (slotWords t rs))) slot-line-count ∙ slot-lines in
+        λ i. record { places = places i; lines = words i }
+
+    -- the first record of each line
+    pub slot-firsts : (j : ℕ) → j < length lines → getD (drop 2056 (slotWords t rs)) (3 * j) 0 ≡ start j lines
+    slot-firsts j h =
+        sym (getD-take (3 * length lines) (drop 2056 (slotWords t rs)) (3 * j) 0 (omega arith))
+        ∙ ap (λ ws. getD ws (3 * j) 0) slot-lines ∙ omega (arith, line-first 0 lines j h)
 
 five : zeros 5 ≡ 0 ∷ 0 ∷ 0 ∷ 0 ∷ 0 ∷ []
 unfolding zeros

@@ -1,0 +1,89 @@
+-- `slot::edit::stored_lines` meets its contract: answer 4 test by test, and else the lines of the stored records.
+-- Assumes nothing.
+use mathlib.Core.Path.{_≡_, ap, sym, _∙_}
+use mathlib.Core.Bool.{true}
+use denote.Ref.{now}
+use borrow.Author.Tests.{not-true, not-false}
+use Rattle.rules.specs.Groups.{units}
+use Rattle.rules.specs.Adjustment.{compose}
+use Rattle.rules.specs.Sheet.{measureOf, indentOf, limitsOk}
+use Rattle.rules.specs.Refusals.{judged}
+use Rattle.rules.specs.Stable.{start}
+use Rattle.slot.proofs.Stored.{fitting, stored-size, stored-paragraph, limits-off, count-off, records-tell}
+use Rattle.slot.proofs.Stored.{stored-damaged, refused-sound, stored-sound}
+use borrow.Author.Needs.{needs}
+use Rattle.slot.proofs.edit.stored_lines.Statement.{statement}
+use Rattle.slot.proofs.edit.stored_lines.Tie as tie
+
+-- the function's entry, and that measure and indent are within limits, from past the tests of both and of the count
+abbrev entry : tie.Else1 → tie.Start
+entry c = c .before .before .before .before .before .before
+
+limits-at : (c : tie.Else1) → let w = now (entry c .args .words) in limitsOk (measureOf w) (indentOf w) ≡ true
+limits-at c = sym (c .before .limits-ok .ensures) ∙ not-false _ (c .if1 .left)
+
+returns : tie.Need-returns
+returns c =
+    let d = c .before in
+    let w = now (d .before .before .before .before .before .before .args .words) in
+    stored-damaged w _ _ _ (limits-off w (sym (d .before .limits-ok .ensures) ∙ not-true _ (d .if1 .taken)))
+    (c .damaged .ensures)
+
+returns-2 : tie.Need-returns-2
+returns-2 c =
+    let d = c .before in
+    let w = now (entry (d .before) .args .words) in
+    stored-damaged w _ _ _ (count-off w (limits-at (d .before)) (d .if2 .taken)) (c .damaged2 .ensures)
+
+check-requires : tie.Need-check-requires
+check-requires c κs =
+    let d = c .before .before in
+    let s = entry (d .before) in
+    fitting _ _ _ (stored-size (now (s .args .words)) (s .pre) (d .if2 .left)) (limits-at (d .before))
+
+returns-3 : tie.Need-returns-3
+returns-3 c =
+    let k = c .before .before .before in
+    let d = k .before .before .before in
+    let s = entry (d .before) in
+    let w = now (s .args .words) in
+    let t = records-tell w (limits-at (d .before)) (d .if2 .left) in
+    let a = ap (judged (measureOf w) (indentOf w)) (sym (stored-paragraph w (s .pre) (d .if2 .left)))
+    ∙ k .check .ensures .answer in
+    stored-damaged w _ _ _ (refused-sound w _ _ t a (c .before .if3 .taken)) (c .damaged3 .ensures)
+
+returns-4 : tie.Need-returns-4
+returns-4 c =
+    let k = c .before .before in
+    let d = k .before .before .before in
+    let s = entry (d .before) in
+    let w = now (s .args .words) in
+    let p = stored-paragraph w (s .pre) (d .if2 .left) in
+    let t = records-tell w (limits-at (d .before)) (d .if2 .left) in
+    let z = c .if3 .left in
+    stored-sound w _ _ _ t (ap (judged (measureOf w) (indentOf w)) (sym p) ∙ k .check .ensures .answer) z
+    (λ j h.
+    k .check .ensures .first z j h ∙ ap (λ rs. start j (compose (measureOf w) (indentOf w) (units rs))) p)
+
+pub stored-lines-spec : {M : Type 1} → statement M
+stored-lines-spec =
+    tie.close
+    (tie.spec
+    (λ c. search needs)
+    (λ c. search needs)
+    (λ c. search needs)
+    (λ c κs. search needs)
+    (λ c κs. search needs)
+    returns
+    (λ c κs. search needs)
+    returns-2
+    (λ c. search needs)
+    (λ c. search needs)
+    (λ c. search needs)
+    (λ c. search needs)
+    (λ c. search needs)
+    (λ c. search needs)
+    check-requires
+    (λ c κs. search needs)
+    returns-3
+    returns-4)
