@@ -1,6 +1,6 @@
 -- What an accepted edit does on a sheet of any words, and what a read hands back after it. Assumes nothing.
 use mathlib.Core.Path.{_≡_, refl, sym, ap, _∙_}
-use Prim.Native.Nat.{ℕ, _≤_}
+use Prim.Native.Nat.{ℕ, _/_, _≤_}
 use native.Mathlib.Omega.{arith}
 use mathlib.Core.Bool.{true}
 use mathlib.Core.List.{List}
@@ -8,21 +8,26 @@ use mathlib.Core.Logic.{inl, inr}
 use lib.Dec.{eqb}
 use lib.ListN.{length}
 use borrow.Author.Tests.{eqb-true, eqb-false}
+use Rattle.rules.specs.Records.{records}
 use Rattle.rules.specs.Groups.{TextUnit, units}
 use Rattle.rules.specs.Adjustment.{compose}
 use Rattle.rules.specs.Sheet.{Setting, lineWords, slotWords, clinicOf, measureOf, indentOf, settingOf, lineCountOf}
-use Rattle.rules.specs.Sheet.{slotAt}
-use Rattle.rules.specs.Refusals.{says, EditAnswer, asEdit, Outcome, edited, slotRows, editSlot}
+use Rattle.rules.specs.Sheet.{recordsOf, slotAt}
+use Rattle.rules.specs.Stable.{usedBy, usedOf, Stable}
+use Rattle.rules.specs.Refusals.{says, EditAnswer, asEdit, Outcome, linesRedone, edited, editRedone, slotRows, editSlot}
 use Rattle.rules.specs.Refusals.{callRows, called, onSlot, readNumber, readWords}
 use Rattle.rules.proofs.Facts.{tested}
 use Rattle.rules.proofs.Lengths.{composed-few}
+use Rattle.rules.proofs.Words.{length-records}
+use Rattle.rules.proofs.RedoneLines.{edit-stable}
 use Rattle.sheet.specs.Meanings.{Spliced}
 use Rattle.sheet.proofs.Tables.{same-number, lacking, passed}
 use Rattle.sheet.proofs.Reading.{number-0, read-slot}
-use Rattle.rules.proofs.SlotWords.{slot-setting, slot-line-count, slot-lines}
+use Rattle.rules.proofs.SlotWords.{slot-setting, slot-line-count, slot-lines, slot-used}
 use Rattle.sheet.proofs.OnSlot.{on-entering, on-refusing, on-length, on-slot}
 use Rattle.sheet.proofs.Alike.{called-alike}
 use Rattle.sheet.proofs.SlotChanges.{slot-judged, length-edit-slot, slot-accepted, slot-spliced}
+use Rattle.sheet.proofs.SlotChanges.{slot-reports-none}
 
 module _ (ws : List ℕ) (caller k place deleted : ℕ) (inserted : List ℕ) where
   abbrev before : List ℕ
@@ -82,6 +87,45 @@ module _ (ws : List ℕ) (caller k place deleted : ℕ) (inserted : List ℕ) wh
       let j = slot-judged before place deleted inserted 0 refl (f .number) in
       let a = slot-accepted before place deleted inserted (f .number) in
       rw (f .answer, f .slot) (slot-spliced before place deleted inserted j a)
+
+  -- its lines around those that it composes anew stay, and it reports these
+  pub accepted-stable : out .0 .number ≡ 0 →
+      let old = compose m x (units (recordsOf before)) in
+      let new = compose m x us in
+      Stable place deleted (length inserted / 6) old new (usedBy old) (usedBy new) (out .0 .redone)
+  unfolding callRows linesRedone
+  accepted-stable z =
+      let f = from-slot 0 refl z in
+      let n = length inserted / 6 in
+      let e : out .0 .redone ≡ editRedone before place deleted inserted
+      = ap (λ (a : EditAnswer). a .redone) (f .answer)
+      ∙ ap (λ (o : Outcome EditAnswer). o .0 .redone) (slot-accepted before place deleted inserted (f .number)) in
+      rw (e, length-records)
+      (rw (length-records inserted 0 n) at
+      (edit-stable m x (recordsOf before) place deleted (records inserted 0 n) (accepted-edit z .fits)))
+
+  -- and the slot's used words are those of its new lines
+  pub accepted-used : out .0 .number ≡ 0 → usedOf (slotAt (out .1) k) ≡ usedBy (compose m x us)
+  unfolding callRows slotRows
+  accepted-used z =
+      let f = from-slot 0 refl z in
+      let few = slot-judged before place deleted inserted 0 refl (f .number) .few in
+      ap usedOf
+      (f .slot ∙ ap (λ (o : Outcome EditAnswer). o .1) (slot-accepted before place deleted inserted (f .number)))
+      ∙ slot-used (settingOf before) (edited before place deleted inserted) few
+
+  -- a refused one reports none
+  pub refused-none : (out .0 .number ≡ 0 → ⊥) → out .0 .redone ≡ 0
+  refused-none z =
+      elim (tested (eqb (called ws caller k .number) 0)) [
+        | inl t ↦
+            let a : out .0 ≡ here before .0
+            = ap (λ (o : Outcome EditAnswer). o .0) (on-entering asEdit ws caller k here (eqb-true _ _ t)) in
+            ap (λ (b : EditAnswer). b .redone) a
+            ∙ slot-reports-none before place deleted inserted (λ e. z (ap (λ (b : EditAnswer). b .number) a ∙ e))
+        | inr t ↦
+            ap (λ (o : Outcome EditAnswer). o .0 .redone) (on-refusing asEdit ws caller k here (eqb-false _ _ t))
+      ]
 
   -- a read after it, by the same caller, hands back the line words of the composed records
   pub read-after : out .0 .number ≡ 0 →

@@ -4,7 +4,7 @@
 -- specs/Meanings.antt; the rules in crate `rules`, whose own proofs/Claims.antt has what is proved of them alone.
 -- Assumes nothing.
 use mathlib.Core.Path.{_≡_}
-use Prim.Native.Nat.{ℕ, _*_}
+use Prim.Native.Nat.{ℕ, _*_, _/_}
 use mathlib.Core.List.{List, []}
 use mathlib.Core.Logic.{_↔_}
 use lib.ListN.{length, getD, take, drop}
@@ -12,9 +12,10 @@ use denote.Ref.{now}
 use Rattle.rules.specs.Basics.{Run as RunOf}
 use Rattle.rules.specs.Groups.{TextUnit, units}
 use Rattle.rules.specs.Breaks.{runs, breaking}
-use Rattle.rules.specs.Adjustment.{compose}
+use Rattle.rules.specs.Adjustment.{Line, compose}
 use Rattle.rules.specs.Sheet.{lineWords, lineCountOf, measureOf, indentOf, recordsOf, slotAt}
 use Rattle.rules.specs.Refusals.{Outcome, edited}
+use Rattle.rules.specs.Stable.{Used, usedBy, usedOf, Stable}
 use Rattle.rules.specs.Meanings.{All, Choice, Fits, Longest, FirstWide, RubyPlaced}
 use Rattle.rules.proofs.Claims.{lines-chosen}
 use Rattle.sheet.specs.Book.{SlotCall, reads, Call, call-on, Reply, read-reply, numberOf, step}
@@ -29,6 +30,7 @@ use Rattle.sheet.proofs.Told.{told}
 use Rattle.sheet.proofs.RunLaws.{run-unchanged, run-length, run-alike, run-frame, read-lines, read-nothing}
 use Rattle.sheet.proofs.RunLaws.{read-kept}
 use Rattle.sheet.proofs.EditRuns.{run-splices, run-found-0, run-0, run-10, run-10-place, run-rubies, run-read}
+use Rattle.sheet.proofs.EditRuns.{run-stable, run-used, run-words-stable, run-none}
 use Rattle.sheet.proofs.Booked.{Begun, AsBooked}
 use Rattle.sheet.proofs.Histories.{as-booked}
 use Rattle.sheet.proofs.setting.set_up.Statement as set-up-contract
@@ -93,6 +95,35 @@ module _ (u : EditRun) where
   pub edit-lines : answer u .number ≡ 0 →
       Choice us (breaking m x (runs us)) × Fits m x (breaking m x (runs us)) × Longest m x (breaking m x (runs us))
   edit-lines h = lines-chosen m x us (run-found-0 u h)
+
+  -- request 03: the lines that the rules give the slot's records, before and after; and that an edit which found the
+  -- places and lines w and left v keeps all lines before f, and all from r on but for their numbers, and reports the
+  -- number of those between
+  abbrev old : List Line
+  old = compose m x (units (recordsOf (slotBefore u)))
+
+  abbrev new : List Line
+  new = compose m x us
+
+  abbrev StableIn : Used → Used → Type 0
+  StableIn w v = Stable (place u) (deleted u) (length (inserted u) / 6) old new w v (answer u .redone)
+
+  -- of the lines and their words by the rules
+  pub edit-stable : answer u .number ≡ 0 → StableIn (usedBy old) (usedBy new)
+  edit-stable h = run-stable u h
+
+  -- of the slot's own words, where it held what the rules give its records
+  pub edit-words-stable : answer u .number ≡ 0 → usedOf (slotBefore u) ≡ usedBy old →
+      StableIn (usedOf (slotBefore u)) (usedOf (slotAfter u))
+  edit-words-stable h e = run-words-stable u h e
+
+  -- as it does after every accepted edit
+  pub edit-words-used : answer u .number ≡ 0 → usedOf (slotAfter u) ≡ usedBy new
+  edit-words-used h = run-used u h
+
+  -- a refused edit reports none
+  pub refused-reports-none : (answer u .number ≡ 0 → ⊥) → answer u .redone ≡ 0
+  refused-reports-none h = run-none u h
 
   -- no earlier answer is due; some choice of permitted breaks fits the measure
   abbrev NoneDue : Type 0

@@ -11,15 +11,16 @@ use Rattle.rules.specs.Basics.{Run as RunOf}
 use Rattle.rules.specs.Records.{records}
 use Rattle.rules.specs.Groups.{TextUnit, units}
 use Rattle.rules.specs.Breaks.{runs, noBreaking}
-use Rattle.rules.specs.Adjustment.{compose}
+use Rattle.rules.specs.Adjustment.{Line, compose}
 use Rattle.rules.specs.Sheet.{lineWords, measureOf, indentOf, recordsOf, slotAt}
+use Rattle.rules.specs.Stable.{Used, usedBy, usedOf, Stable}
 use Rattle.rules.specs.Refusals.{EditAnswer, Outcome, splice, edited, edit, readNumber, readWords}
 use Rattle.rules.specs.Meanings.{All, Choice, Fits, FirstWide, RubyPlaced}
 use Rattle.rules.proofs.RubyPlaces.{rubies-placed}
 use Rattle.sheet.specs.Book.{reads, call-on, read-reply}
 use Rattle.sheet.specs.Meanings.{NoEarlier, Spliced}
 use Rattle.rules.proofs.SlotWords.{records-again}
-use Rattle.sheet.proofs.Changes.{accepted-edit, read-after}
+use Rattle.sheet.proofs.Changes.{accepted-edit, accepted-stable, accepted-used, refused-none, read-after}
 use Rattle.sheet.proofs.Exactly.{found-0, exactly-0, exactly-10, place-10}
 use Rattle.sheet.proofs.Runs.{EditRun, caller, slot, place, deleted, inserted, answer, slotBefore, slotAfter}
 use Rattle.sheet.proofs.Runs.{Run, call, before, reply}
@@ -80,6 +81,42 @@ module _ (u : EditRun) where
   run-10-place =
       by-contract (λ o. o .0 .number ≡ 10 → FirstWide m x (runs us) (o .0 .place))
       (place-10 ws (caller u .0) (slot u .0) (place u) (deleted u) (inserted u))
+
+  -- the slot's lines by the rules, before and after
+  abbrev pub old : List Line
+  old = compose m x (units (recordsOf (slotBefore u)))
+
+  abbrev pub new : List Line
+  new = compose m x us
+
+  abbrev pub StableIn : Used → Used → Type 0
+  StableIn w v = Stable (place u) (deleted u) (length (inserted u) / 6) old new w v (answer u .redone)
+
+  -- what the edit composes anew, and what stays
+  pub run-stable : answer u .number ≡ 0 → StableIn (usedBy old) (usedBy new)
+  unfolding edit
+  run-stable =
+      by-contract
+      (λ o. o .0 .number ≡ 0 →
+      Stable (place u) (deleted u) (length (inserted u) / 6) old new (usedBy old) (usedBy new) (o .0 .redone))
+      (accepted-stable ws (caller u .0) (slot u .0) (place u) (deleted u) (inserted u))
+
+  pub run-used : answer u .number ≡ 0 → usedOf (slotAfter u) ≡ usedBy new
+  unfolding edit
+  run-used =
+      by-contract (λ o. o .0 .number ≡ 0 → usedOf (slotAt (o .1) (slot u .0)) ≡ usedBy new)
+      (accepted-used ws (caller u .0) (slot u .0) (place u) (deleted u) (inserted u))
+
+  pub run-words-stable : answer u .number ≡ 0 → usedOf (slotBefore u) ≡ usedBy old →
+      StableIn (usedOf (slotBefore u)) (usedOf (slotAfter u))
+  run-words-stable z e = subst (λ w. StableIn w (usedOf (slotAfter u))) (sym e)
+      (subst (λ v. StableIn (usedBy old) v) (sym (run-used z)) (run-stable z))
+
+  pub run-none : (answer u .number ≡ 0 → ⊥) → answer u .redone ≡ 0
+  unfolding edit
+  run-none =
+      by-contract (λ o. (o .0 .number ≡ 0 → ⊥) → o .0 .redone ≡ 0)
+      (refused-none ws (caller u .0) (slot u .0) (place u) (deleted u) (inserted u))
 
   -- the groups of the slot that it leaves are within ruby place's limits
   pub run-rubies : answer u .number ≡ 0 → All RubyPlaced (units (recordsOf (slotAfter u)))

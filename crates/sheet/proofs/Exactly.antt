@@ -14,7 +14,7 @@ use Rattle.rules.specs.Groups.{TextUnit, units}
 use Rattle.rules.specs.Breaks.{runs, noBreaking}
 use Rattle.rules.specs.Adjustment.{compose}
 use Rattle.rules.specs.Sheet.{measureOf, indentOf, slotAt}
-use Rattle.rules.specs.Refusals.{says, EditAnswer, asEdit, Outcome, orElse, judged, edited, slotRows}
+use Rattle.rules.specs.Refusals.{Answer, says, EditAnswer, asEdit, Outcome, orElse, judged, edited, slotRows}
 use Rattle.rules.specs.Refusals.{editSlot, callRows, onSlot}
 use Rattle.rules.specs.Meanings.{Choice, Fits, FirstWide}
 use Rattle.rules.proofs.Claims.{no-10-exactly, answer-10}
@@ -60,9 +60,10 @@ module _ (ws : List ℕ) (caller k place deleted : ℕ) (inserted : List ℕ) wh
   place-10 z =
       let f = from-slot ws caller k place deleted inserted 10 refl z in
       let j = slot-judged before place deleted inserted 10 refl (f .number) .answer in
-      let a : out .0 ≡ asEdit (judged m x new) = f .answer ∙ ap asEdit j in
+      let a : out .0 .place ≡ judged m x new .place
+      = ap (λ (b : EditAnswer). b .place) (f .answer) ∙ ap (λ (b : Answer). b .place) j in
       let e = judged-10 m x _ (same-number (sym j) ∙ f .number) in
-      answer-10 m x us (out .0 .place) (e ∙ ap (λ (b : EditAnswer). some (b .place)) (sym a)) .1
+      answer-10 m x us (out .0 .place) (e ∙ ap some (sym a)) .1
 
   abbrev pub Breakable : Type 0
   Breakable = (ls : List (Run TextUnit)) × Choice us ls × Fits m x ls
@@ -88,27 +89,25 @@ module _ (ws : List ℕ) (caller k place deleted : ℕ) (inserted : List ℕ) wh
       }
 
   -- and where none of them is due, the answer is that of the breaking
-  due-10 : NoneDue → out .0 ≡ asEdit (orElse 10 (noBreaking m x us) (says 0 (length (compose m x us))))
+  due-10 : NoneDue → out .0 .number ≡ orElse 10 (noBreaking m x us) (says 0 (length (compose m x us))) .number
   unfolding slotRows editSlot judged
   due-10 h =
       let rows = slotRows before place deleted inserted in
-      ap (λ (o : Outcome EditAnswer). o .0) (on-entering asEdit ws caller k here (h .call))
-      ∙ ap asEdit (under-table rows _ (passed 0 rows (says 0 0) refl (h .slot) .0) ∙ rw (h .records, h .groups))
+      ap (λ (o : Outcome EditAnswer). o .0 .number) (on-entering asEdit ws caller k here (h .call))
+      ∙ same-number (under-table rows _ (passed 0 rows (says 0 0) refl (h .slot) .0)) ∙ rw (h .records, h .groups)
 
   by-breaking : (o : Option ℕ) → noBreaking m x us ≡ o →
-      out .0 ≡ asEdit (orElse 10 o (says 0 (length (compose m x us)))) →
+      out .0 .number ≡ orElse 10 o (says 0 (length (compose m x us))) .number →
       ((out .0 .number ≡ 10) ↔ (Breakable → ⊥)) × ((out .0 .number ≡ 0) ↔ Breakable)
   by-breaking none e a =
-      let b : Breakable = no-10-exactly m x us .0 e in
-      let z : out .0 .number ≡ 0 = ap (λ (c : EditAnswer). c .number) a in (
-        (λ t. absurd (omega (arith, t, z)), λ f. absurd (f b)),
-        (λ t. b, λ b. z),
+      let b : Breakable = no-10-exactly m x us .0 e in (
+        (λ t. absurd (omega (arith, t, a)), λ f. absurd (f b)),
+        (λ t. b, λ b. a),
       )
   by-breaking (some i) e a =
-      let f : Breakable → ⊥ = answer-10 m x us i e .0 in
-      let z : out .0 .number ≡ 10 = ap (λ (c : EditAnswer). c .number) a in (
-        (λ t. f, λ f. z),
-        (λ t. absurd (omega (arith, t, z)), λ b. absurd (f b)),
+      let f : Breakable → ⊥ = answer-10 m x us i e .0 in (
+        (λ t. f, λ f. a),
+        (λ t. absurd (omega (arith, t, a)), λ b. absurd (f b)),
       )
 
   exactly : NoneDue → ((out .0 .number ≡ 10) ↔ (Breakable → ⊥)) × ((out .0 .number ≡ 0) ↔ Breakable)

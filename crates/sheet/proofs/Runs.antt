@@ -69,7 +69,7 @@ module _ (u : EditRun) where
   inserted = now (u .args .1 .1 .1 .1 .1 .0)
 
   abbrev pub answer : EditAnswer
-  answer = editSays (u .result .number) (u .result .place)
+  answer = editSays (u .result .number) (u .result .place) (u .result .redone)
 
   -- the named slot's words, before and after
   abbrev pub slotBefore : List ℕ

@@ -3,15 +3,15 @@
 use mathlib.Core.Path.{_≡_, sym, ap, _∙_}
 use Prim.Native.Nat.{ℕ, _<_}
 use mathlib.Core.Bool.{true, false, not, _||_}
-use mathlib.Core.List.{List}
+use mathlib.Core.List.{List, []}
 use lib.Dec.{eqb}
 use lib.ListN.{length}
 use borrow.Author.Tests.{eq-eqb, ne-eqb}
 use Rattle.rules.specs.Records.{recordWords}
 use Rattle.rules.specs.Sheet.{clinicOf, lengthOk, slotCount, slotAt}
-use Rattle.rules.specs.Refusals.{Answer, EditAnswer, asEdit, Outcome, judged, called}
+use Rattle.rules.specs.Refusals.{Answer, EditAnswer, reporting, Outcome, judged, called}
 use Rattle.sheet.specs.Book.{SlotCall, edits, call-on, Reply, edit-reply, numberOf, refusal, inSlot, step}
-use Rattle.sheet.specs.Book.{BookSlot, freshSlot, encodeSlot}
+use Rattle.sheet.specs.Book.{BookSlot, withRecords, bookRedone, freshSlot, encodeSlot}
 use Rattle.sheet.specs.declared.Clinic.{Clinic}
 use Rattle.sheet.specs.declared.SlotNumber.{SlotNumber}
 use Rattle.sheet.proofs.Tables.{same-number}
@@ -31,7 +31,10 @@ module _ (s : BookSlot) (h : Sound s) where
   abbrev answer : Answer
   answer = judged (s .setting .measure) (s .setting .indent) (s .records)
 
-  in-fresh : inSlot all (freshSlot s) ≡ (edit-reply (asEdit answer), encodeSlot s)
+  abbrev redone : ℕ
+  redone = bookRedone 0 0 (recordWords (s .records)) (withRecords s [])
+
+  in-fresh : inSlot all (freshSlot s) ≡ (edit-reply (reporting answer redone), encodeSlot s)
   in-fresh = ap (λ (o : Outcome EditAnswer). (edit-reply (o .0), o .1)) (single-edit s h)
 
   -- the edit call, on a sheet with a fresh slot j

@@ -15,7 +15,7 @@ use Rattle.rules.specs.Records.{Rec, records, recordWords}
 use Rattle.rules.specs.Groups.{units}
 use Rattle.rules.specs.Adjustment.{compose}
 use Rattle.rules.specs.Sheet.{slotWords, measureOf, indentOf, settingOf, countOf, recordsOf}
-use Rattle.rules.specs.Refusals.{Answer, EditAnswer, editSays, asEdit, Outcome, judged, edited, slotRows}
+use Rattle.rules.specs.Refusals.{Answer, EditAnswer, editSays, Outcome, judged, edited, editRedone, slotRows}
 use Rattle.rules.specs.Refusals.{editSlot}
 use Rattle.rules.proofs.Facts.{tested}
 use Rattle.rules.proofs.Words.{length-records, words-records}
@@ -38,6 +38,9 @@ module _ (s : List ℕ) (place deleted : ℕ) (inserted : List ℕ) where
 
   abbrev lineCount : ℕ
   lineCount = length (compose (measureOf s) (indentOf s) (units new))
+
+  abbrev redone : ℕ
+  redone = editRedone s place deleted inserted
 
   abbrev rows : Answer
   rows = firstOf (slotRows s place deleted inserted) (judged (measureOf s) (indentOf s) new)
@@ -69,15 +72,15 @@ module _ (s : List ℕ) (place deleted : ℕ) (inserted : List ℕ) where
       }
 
   -- accepted
-  pub slot-accepted : done .0 .number ≡ 0 → done ≡ (editSays 0 lineCount, composed)
+  pub slot-accepted : done .0 .number ≡ 0 → done ≡ (editSays 0 lineCount redone, composed)
   unfolding editSlot slotRows
   slot-accepted z =
       let j = slot-judged 0 refl z .answer in
       let a = judged-0 (measureOf s) (indentOf s) new (same-number (sym j) ∙ z) .1 in
-      rw (eq-eqb _ _ z) (ap (λ (o : Answer). (asEdit o, composed)) (j ∙ a))
+      rw (eq-eqb _ _ z) (ap (λ (o : Answer). (editSays (o .number) (o .place) redone, composed)) (j ∙ a))
 
   pub slot-spliced : {o : Outcome EditAnswer} → Judged →
-      _≡_ {A = Outcome EditAnswer} o (editSays 0 lineCount, composed) →
+      _≡_ {A = Outcome EditAnswer} o (editSays 0 lineCount redone, composed) →
       Spliced s (o .1) (o .0) place deleted inserted
   slot-spliced j e =
       rw e
@@ -95,6 +98,10 @@ module _ (s : List ℕ) (place deleted : ℕ) (inserted : List ℕ) where
   pub slot-refused : (done .0 .number ≡ 0 → ⊥) → done .1 ≡ s
   unfolding editSlot
   slot-refused z = rw (ne-eqb _ _ z)
+
+  pub slot-reports-none : (done .0 .number ≡ 0 → ⊥) → done .0 .redone ≡ 0
+  unfolding editSlot
+  slot-reports-none z = rw (ne-eqb _ _ z)
 
   pub length-edit-slot : length s ≡ 2824 → length (done .1) ≡ 2824
   unfolding editSlot slotRows

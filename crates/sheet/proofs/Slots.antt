@@ -13,11 +13,11 @@ use borrow.Author.Tests.{ltb-false, le-leb, le-ltb, eqb-true, eq-eqb}
 use Rattle.rules.specs.Basics.{firstOf}
 use Rattle.rules.specs.Records.{Rec, records, recordWords}
 use Rattle.rules.specs.Sheet.{slotWords, measureOf, indentOf, settingOf, limitsOk}
-use Rattle.rules.specs.Refusals.{Answer, EditAnswer, asEdit, Outcome, judged, sound, splice, edited, slotRows}
-use Rattle.rules.specs.Refusals.{editSlot}
+use Rattle.rules.specs.Refusals.{Answer, EditAnswer, reporting, Outcome, judged, sound, splice, edited, editRedone}
+use Rattle.rules.specs.Refusals.{slotRows, editSlot}
 use Rattle.rules.proofs.Facts.{tested}
 use Rattle.rules.proofs.Limits.{and-right}
-use Rattle.sheet.specs.Book.{BookSlot, withRecords, bookEditRows, bookEdited}
+use Rattle.sheet.specs.Book.{BookSlot, withRecords, bookEditRows, bookEdited, bookRedone}
 use Rattle.sheet.specs.Book.{encodeSlot, freshSlot, singleOf, single}
 use Rattle.rules.proofs.Words.{length-records}
 use Rattle.sheet.proofs.Tables.{passed}
@@ -104,13 +104,21 @@ module _ (s : BookSlot) (h : Sound s) where
         ap (λ t. slotWords t (edited words place deleted inserted)) (slot-setting (s .setting) (s .records))
         ∙ rw slot-records
 
+    same-redone : editRedone words place deleted inserted ≡ bookRedone place deleted inserted s
+    unfolding bookRedone
+    same-redone = rw (slot-records, slot-measure, slot-indent)
+
     pub slot-edits : editSlot words place deleted inserted
-        ≡ (asEdit (bookAnswer place deleted inserted s), encodeSlot (bookAfter place deleted inserted s))
+        ≡ (
+          reporting (bookAnswer place deleted inserted s) (bookRedone place deleted inserted s),
+          encodeSlot (bookAfter place deleted inserted s),
+        )
     unfolding editSlot
     slot-edits =
         let a = bookAnswer place deleted inserted s in
-        rw (same-answer, same-words)
-        (ap (λ w. (asEdit a, w)) (elim (tested (eqb (a .number) 0)) [ inl e ↦ rw e | inr e ↦ rw e ]))
+        rw (same-answer, same-words, same-redone)
+        (ap (λ w. (reporting a (bookRedone place deleted inserted s), w))
+        (elim (tested (eqb (a .number) 0)) [ inl e ↦ rw e | inr e ↦ rw e ]))
 
 -- The single edit ---------------------------------------------------------------------------------------------------
 
@@ -137,7 +145,7 @@ module _ (s : BookSlot) (h : Sound s) where
       rw (edited-all, eq-eqb _ _ six, le-ltb _ _ few)
 
   -- of a fresh slot, with all the records of a sound one
-  pub single-edit : editSlot (freshSlot s) 0 0 all ≡ (asEdit answer, encodeSlot s)
+  pub single-edit : editSlot (freshSlot s) 0 0 all ≡ (reporting answer (bookRedone 0 0 all empty), encodeSlot s)
   single-edit =
       ap (λ w. editSlot w 0 0 all) (sym (slot-fresh (s .setting)))
       ∙ slot-edits empty (sound-none (s .setting) (h .limits)) 0 0 all

@@ -3,7 +3,8 @@
 --   book         for each slot its setting and its records in order
 --   call         set-up, or a call on a slot by a caller, with its arguments; read and its companion together are one
 --   slot call    what is done on the slot: edit or read
---   reply        what a call gives its caller: a number and a place, or a read's number and words
+--   reply        what a call gives its caller: a number and a place, with an edit's lines redone, or a read's number
+--                and words
 --   step         a call on a sheet, by the definitions that the calls' contracts cite
 --   book step    a call in the book, which is told the call and the sheet's length and nothing else
 --   encode       the words of a sheet whose slots hold what the book's slots hold
@@ -22,8 +23,8 @@ use Rattle.rules.specs.Records.{Rec, records, recordWords}
 use Rattle.rules.specs.Groups.{units}
 use Rattle.rules.specs.Adjustment.{compose}
 use Rattle.rules.specs.Sheet.{Setting, setting, lineWords, slotWords, fresh, lineCountOf, lengthOk}
-use Rattle.rules.specs.Refusals.{Answer, says, EditAnswer, asEdit, Outcome, judged, splice, editSlot, onSlot}
-use Rattle.rules.specs.Refusals.{readRows, settingAt, setUpAnswer, setUp}
+use Rattle.rules.specs.Refusals.{Answer, says, EditAnswer, asEdit, reporting, Outcome, judged, splice, linesRedone}
+use Rattle.rules.specs.Refusals.{editSlot, onSlot, readRows, settingAt, setUpAnswer, setUp}
 use Rattle.sheet.specs.declared.Clinic.{Clinic}
 use Rattle.sheet.specs.declared.SlotNumber.{SlotNumber}
 
@@ -127,13 +128,20 @@ unfoldable pub bookEdited : ℕ → ℕ → List ℕ → BookSlot → BookSlot
 bookEdited place deleted inserted s =
     withRecords s (splice (s .records) place deleted (records inserted 0 (length inserted / 6)))
 
--- "the table's number and place, or 0 and the line count that the rules give", and the slot afterwards
+-- "The book reports it likewise": how many lines the edit composes anew, from the book's own records
+unfoldable pub bookRedone : ℕ → ℕ → List ℕ → BookSlot → ℕ
+bookRedone place deleted inserted s =
+    linesRedone (s .setting .measure) (s .setting .indent) (s .records) place deleted
+    (records inserted 0 (length inserted / 6))
+
+-- "the table's number and place, or 0 and the line count that the rules give", with that report, and the slot
+-- afterwards
 unfoldable pub bookEdit : ℕ → ℕ → List ℕ → BookSlot → EditAnswer × BookSlot
 bookEdit place deleted inserted s =
     let t = bookEdited place deleted inserted s in
     let m = t .setting .measure in
     let a = firstOf (bookEditRows place deleted inserted s) (judged m (t .setting .indent) (t .records)) in
-    (asEdit a, cond (eqb (a .number) 0) t s)
+    (reporting a (bookRedone place deleted inserted s), cond (eqb (a .number) 0) t s)
 
 -- the line words that the rules give a slot's records
 abbrev pub bookLines : BookSlot → List ℕ

@@ -64,7 +64,7 @@ fn called(sheet: &[u32], caller: Clinic, slot: SlotNumber) -> Answer
     }
 }
 
-// Replaces a stretch of a slot's records, and composes the slot anew.
+// Replaces a stretch of a slot's records, composes the slot anew, and reports how many of its lines that redid.
 pub fn edit(
     sheet: &mut [u32],
     caller: Clinic,
@@ -73,7 +73,7 @@ pub fn edit(
     deleted: u32,
     inserted: &[u32],
 ) -> EditAnswer
-    ensures { λ r. ⌜ (editSays (r .number) (r .place), now (sheet .exit))
+    ensures { λ r. ⌜ (editSays (r .number) (r .place) (r .redone), now (sheet .exit))
         ≡ editOf (now (sheet .entry)) (caller .0) (slot .0) place deleted (now (inserted .entry)) ⌝ }
 {
     let refusal = called(sheet, caller, slot);
@@ -81,6 +81,7 @@ pub fn edit(
         return EditAnswer {
             number: refusal.number,
             place: refusal.place,
+            redone: 0,
         };
     }
     let start = 2824 * slot.0 as usize;
