@@ -6,6 +6,7 @@ use crate::adjust::{adjust, Kind};
 use crate::answer::Refusal;
 use crate::breaking::{Breaker, Setting};
 use crate::records::{first_group_fault, Record};
+use crate::redone::Lines;
 use crate::units::units;
 
 /// Where a record stands.
@@ -37,10 +38,14 @@ pub struct Composition {
     pub lines: Vec<Line>,
 }
 
-/// Whether these records can be composed; otherwise answer 9 or 10.
-pub fn check(records: &[Record], setting: Setting) -> Result<(), Refusal> {
+/// The lines of these records, which are not adjusted; or answer 9 or 10.
+pub fn break_into_lines(records: &[Record], setting: Setting) -> Result<Lines, Refusal> {
     check_groups(records)?;
-    check_breaking(&Breaker::new(&units(records), setting))
+    let units = units(records);
+    let breaker = Breaker::new(&units, setting);
+    check_breaking(&breaker)?;
+    let starts = breaker.lines().into_iter().map(|line| units[line.start].first).collect();
+    Ok(Lines { starts, records: records.len() })
 }
 
 /// The paragraph of these records, or answer 9 or 10.
@@ -69,6 +74,11 @@ fn check_breaking(breaker: &Breaker) -> Result<(), Refusal> {
 }
 
 impl Composition {
+    /// Which records stand on each of its lines.
+    pub fn extents(&self) -> Lines {
+        Lines { starts: self.lines.iter().map(|line| line.first).collect(), records: self.places.len() }
+    }
+
     /// Sets the next line, which holds these units.
     fn add_line(&mut self, breaker: &Breaker, line: Range<usize>, measure: u32) {
         let start_x = breaker.start_x(line.start);
