@@ -62,19 +62,19 @@ impl<'a> OneSlot<'a> {
     }
 
     /// Deletes so many records at a place and inserts others there. The lines that the program under test
-    /// does not report as composed anew must be as they were.
-    pub fn edit(&mut self, place: u32, deleted: u32, inserted: &[u32]) -> Result<(), Failure> {
+    /// does not report as composed anew must be as they were. Its answer comes back.
+    pub fn edit(&mut self, place: u32, deleted: u32, inserted: &[u32]) -> Result<EditAnswer, Failure> {
         self.before.copy_from_slice(&self.tested);
         let edit = own(place, deleted, inserted);
         let answer = self.make(edit)?;
         if answer.number != 0 {
-            return Ok(());
+            return Ok(answer);
         }
         match kept::redone_lines(&self.before, &self.tested, &edit, answer.redone) {
             Ok(lines) => self.tally.count(Outcome::of_redone(&lines, answer.place as usize)),
             Err(_) => return Err(self.failure(record_words(&self.before), edit_call(edit))),
         }
-        Ok(())
+        Ok(answer)
     }
 
     /// The records that both programs hold.
