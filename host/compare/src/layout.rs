@@ -26,6 +26,11 @@ pub fn record_words(slot: &[u32]) -> &[u32] {
     &slot[RECORDS..][..6 * most.min(slot[3] as usize)]
 }
 
+/// The first record of each line that a slot says it has.
+pub fn line_starts(slot: &[u32]) -> Vec<u32> {
+    slot[LINES..].chunks(3).take(slot[4] as usize).map(|line| line[0]).collect()
+}
+
 /// Which word of a sheet this is, for a person.
 pub fn name(at: usize) -> String {
     let (slot, word) = (at / SLOT, at % SLOT);

@@ -111,7 +111,6 @@ fn the_redone_lines_read_rightly() {
     for comparison in ALL {
         assert!(comparison(&sound, Scope::Brief).is_ok());
     }
-    assert!(redone::compare(&sound, Scope::Full).is_ok());
 }
 
 #[test]

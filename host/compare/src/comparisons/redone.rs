@@ -5,7 +5,7 @@
 use crate::calls::{Call, Case, Words};
 use crate::failure::Failure;
 use crate::generate::{all_texts, plain, Style, EDGES};
-use crate::layout::{record_words, LARGEST_MEASURE, LINES, PLACES, SLOT};
+use crate::layout::{line_starts, record_words, LARGEST_MEASURE, LINES, PLACES, SLOT};
 use crate::one_slot::OneSlot;
 use crate::program::Program;
 use crate::random::{seeds, Random};
@@ -23,7 +23,7 @@ const EDITS: u32 = 6;
 /// Compares small edits, edits of long texts, then those of slots with other lines stored.
 pub fn compare(program: &dyn Program, scope: Scope) -> Result<Tally, Failure> {
     let mut tally = small(program, scope)?;
-    for seed in seeds(TEST, scope, 6_000, 400) {
+    for seed in seeds(TEST, scope, 8_000, 400) {
         tally.add(&long(program, seed)?);
         let case = with_other_lines_stored(seed);
         let seen = run(program, &case).map_err(|_| Failure::new(TEST, Some(seed), program, &case))?;
@@ -32,20 +32,12 @@ pub fn compare(program: &dyn Program, scope: Scope) -> Result<Tally, Failure> {
     Ok(tally)
 }
 
-/// An edit of the slot in question.
-struct Change {
-    place: u32,
-    deleted: u32,
-    inserted: Vec<u32>,
-}
-
 /// Makes an edit, and where it changes the text the one that undoes it.
-fn there_and_back(slot: &mut OneSlot, change: &Change) -> Result<(), Failure> {
+fn there_and_back(slot: &mut OneSlot, place: u32, deleted: u32, inserted: &[u32]) -> Result<(), Failure> {
     let text = slot.records().to_vec();
-    slot.edit(change.place, change.deleted, &change.inserted)?;
+    slot.edit(place, deleted, inserted)?;
     if slot.records() != text {
-        let inserted = change.inserted.len() as u32 / 6;
-        slot.edit(change.place, inserted, stretch(&text, change.place, change.deleted))?;
+        slot.edit(place, inserted.len() as u32 / 6, stretch(&text, place, deleted))?;
     }
     Ok(())
 }
@@ -60,12 +52,12 @@ fn stretch(text: &[u32], from: u32, count: u32) -> &[u32] {
 /// end none, and what joins its like across the place.
 fn small(program: &dyn Program, scope: Scope) -> Result<Tally, Failure> {
     let [k, full_stop, opening] = [19, 6, 1].map(|class| plain(class, SIZE));
-    let grouped = [0x6F22, 19, SIZE, SIZE, 1, 1];
+    let grouped = |ruby_count| [0x6F22, 19, SIZE, SIZE, 1, ruby_count];
     let mut slot = OneSlot::new(TEST, None, program);
-    all_small(&mut slot, &[k], scope.choose(8, 6), 3, 0)?;
-    all_small(&mut slot, &[k, full_stop], scope.choose(5, 4), 2, 0)?;
-    all_small(&mut slot, &[k, grouped], scope.choose(5, 3), 2, 5)?;
-    all_small(&mut slot, &[k, opening, plain(19, 2 * SIZE)], scope.choose(4, 3), 1, 0)?;
+    all_small(&mut slot, &[k], scope.choose(12, 6), 4, 0)?;
+    all_small(&mut slot, &[k, full_stop], scope.choose(6, 4), 2, 0)?;
+    all_small(&mut slot, &[k, opening, plain(19, 2 * SIZE)], scope.choose(5, 3), 1, 0)?;
+    all_small(&mut slot, &[k, grouped(1), grouped(2)], scope.choose(4, 3), 2, 5)?;
     Ok(slot.tally)
 }
 
@@ -87,10 +79,9 @@ fn all_small(
                 continue;
             }
             let count = text.len() as u32 / 6;
-            for (place, deleted) in (0..=count).flat_map(|place| (0..=count - place).map(move |n| (place, n)))
-            {
+            for (place, end) in (0..=count).flat_map(|place| (place..=count).map(move |end| (place, end))) {
                 for inserted in &insertions {
-                    there_and_back(slot, &Change { place, deleted, inserted: inserted.clone() })?;
+                    there_and_back(slot, place, end - place, inserted)?;
                 }
             }
         }
@@ -107,8 +98,8 @@ fn long(program: &dyn Program, seed: u64) -> Result<Tally, Failure> {
     slot.set_up(measure, indent)?;
     slot.replace(&text)?;
     for _ in 0..EDITS {
-        let change = change(&mut random, &style, slot.words());
-        there_and_back(&mut slot, &change)?;
+        let Change { place, deleted, inserted } = Change::of(&mut random, &style, slot.words());
+        there_and_back(&mut slot, place, deleted, &inserted)?;
     }
     Ok(slot.tally)
 }
@@ -129,43 +120,49 @@ fn long_text(random: &mut Random, style: &Style) -> (u32, u32, Vec<u32>) {
     (measure, indent, text)
 }
 
-/// An edit of a slot that holds these words, mostly about where a line or a group starts.
-fn change(random: &mut Random, style: &Style, slot: &[u32]) -> Change {
-    let text = record_words(slot);
-    let count = text.len() as u32 / 6;
-    // With the end, which starts no line.
-    let line_starts: Vec<u32> = slot[LINES..].chunks(3).take(slot[4] as usize).map(|line| line[0]).collect();
-    let starts = [&line_starts[..], &[count]].concat();
-    let start = random.one_of(&starts);
-    let place = match random.below(8) {
-        0 => 0,
-        1 => count,
-        2 => start.saturating_sub(1),
-        3 => (start + 1).min(count),
-        4 => random.one_of(&group_ends(text)).min(count),
-        5 => random.below(count + 1),
-        _ => start,
-    };
-    let deleted = match random.below(6) {
-        0 | 1 => 0,
-        2 => 1,
-        // Up to where a line starts, which may be several lines on.
-        3 => random.one_of(&starts).saturating_sub(place),
-        4 => random.below(count - place + 1),
-        _ => random.below(5),
-    };
-    let deleted = deleted.min(count - place);
-    Change { place, deleted, inserted: insertion(random, style, text, stretch(text, place, deleted)) }
+/// An edit of the slot in question.
+struct Change {
+    place: u32,
+    deleted: u32,
+    inserted: Vec<u32>,
 }
 
-/// Where a group ends; 0 where there is none.
-fn group_ends(text: &[u32]) -> Vec<u32> {
+impl Change {
+    /// An edit of a slot that holds these words, mostly about where a line or a group starts or ends.
+    fn of(random: &mut Random, style: &Style, slot: &[u32]) -> Change {
+        let text = record_words(slot);
+        let count = text.len() as u32 / 6;
+        // With the end, where a line ends.
+        let starts = [line_starts(slot), vec![count]].concat();
+        let start = random.one_of(&starts);
+        let place = match random.below(8) {
+            0 => 0,
+            1 => count,
+            2 => start.saturating_sub(1),
+            3 => (start + 1).min(count),
+            4 => random.one_of(&group_bounds(text)),
+            5 => random.below(count + 1),
+            _ => start,
+        };
+        let deleted = match random.below(6) {
+            0 | 1 => 0,
+            2 => 1,
+            // Up to where a line starts, which may be several lines on.
+            3 => random.one_of(&starts).saturating_sub(place),
+            4 => random.below(count - place + 1),
+            _ => random.below(5),
+        };
+        let deleted = deleted.min(count - place);
+        Change { place, deleted, inserted: insertion(random, style, text, stretch(text, place, deleted)) }
+    }
+}
+
+/// Where a group starts or ends within the text, and 0.
+fn group_bounds(text: &[u32]) -> Vec<u32> {
     let (records, _) = text.as_chunks::<6>();
-    let ends = (1..).zip(records).filter(|(_, record)| record[4] != 0).map(|(end, _)| end);
-    let ends = ends.filter(|&end: &u32| {
-        records.get(end as usize).is_none_or(|next| next[4] != records[end as usize - 1][4])
-    });
-    std::iter::once(0).chain(ends).collect()
+    let pairs = (1..).zip(records.windows(2));
+    let bounds = pairs.filter(|(_, pair)| pair[0][4] != pair[1][4]).map(|(at, _)| at);
+    std::iter::once(0).chain(bounds).collect()
 }
 
 /// Records to put into a text in place of these of it.
@@ -210,7 +207,7 @@ fn with_other_lines_stored(seed: u64) -> Case {
 
     let lines = second::slot_words(CLINIC, head[1], head[2], &text);
     let slot = lines.unwrap_or_else(|_| vec![0; SLOT]);
-    let Change { place, deleted, inserted } = change(&mut random, &style, &slot);
+    let Change { place, deleted, inserted } = Change::of(&mut random, &style, &slot);
     calls.push(Call::Edit { caller: CLINIC, slot: 0, place, deleted, inserted });
     Case { length: SLOT, junk: None, calls }
 }

@@ -3,7 +3,7 @@
 
 use second::Edit;
 
-use crate::layout::{record_words, LINES};
+use crate::layout::{line_starts, record_words, PLACES};
 
 /// A wrong report.
 #[derive(Debug, Clone, Copy, PartialEq, Eq)]
@@ -42,12 +42,14 @@ pub enum Misreading {
     UpToR,
     /// The old lines are those that are stored.
     StoredLines,
+    /// k is the line that is stored with the place.
+    StoredPlace,
     /// A refused edit reports the lines that there are.
     RefusedToo,
 }
 
 /// All of them.
-pub const MISREADINGS: [Misreading; 17] = [
+pub const MISREADINGS: [Misreading; 18] = [
     Misreading::FirstIsEdited,
     Misreading::EditedInNew,
     Misreading::EndAfterLast,
@@ -64,21 +66,14 @@ pub const MISREADINGS: [Misreading; 17] = [
     Misreading::AllLines,
     Misreading::UpToR,
     Misreading::StoredLines,
+    Misreading::StoredPlace,
     Misreading::RefusedToo,
 ];
 
-/// The first record of each line.
-type Starts = Vec<usize>;
-
-/// Those of the lines that a slot's words say it has.
-fn stored_starts(slot: &[u32]) -> Starts {
-    slot[LINES..].chunks(3).take(slot[4] as usize).map(|line| line[0] as usize).collect()
-}
-
-/// Those of the lines that the rules give a slot's records; none where the slot is damaged.
-fn ruled_starts(slot: &[u32]) -> Starts {
+/// The first record of each line that the rules give a slot's records.
+fn ruled_starts(slot: &[u32]) -> Vec<u32> {
     let composed = second::slot_words(slot[0], slot[1], slot[2], record_words(slot));
-    composed.map_or(Vec::new(), |words| stored_starts(&words))
+    composed.map_or(Vec::new(), |words| line_starts(&words))
 }
 
 impl Misreading {
@@ -87,12 +82,12 @@ impl Misreading {
         if !accepted {
             return if self == Misreading::RefusedToo { old[4] } else { 0 };
         }
-        let records = old[3] as usize;
         let stored = self == Misreading::StoredLines;
-        let old = if stored { stored_starts(old) } else { ruled_starts(old) };
-        let new = stored_starts(new);
-        let f = self.first(&old, &new, edit, records);
-        let r = self.again(&old, &new, edit, f);
+        let old_starts = if stored { line_starts(old) } else { ruled_starts(old) };
+        let new = line_starts(new);
+        let k = self.edited(old, &old_starts, &new, edit.place);
+        let f = if self == Misreading::FirstIsEdited { k } else { k.saturating_sub(1) };
+        let r = self.again(&old_starts, &new, edit, f);
         let report = match self {
             Misreading::AllLines => new.len(),
             Misreading::UpToR => r,
@@ -101,43 +96,39 @@ impl Misreading {
         report as u32
     }
 
-    /// f, where there were so many records.
-    fn first(self, old: &Starts, new: &Starts, edit: &Edit, records: usize) -> usize {
-        let place = edit.place as usize;
-        let holding = |lines: &Starts| lines.iter().rposition(|&start| start <= place).unwrap_or(0);
-        let k = match self {
-            Misreading::EndAfterLast if place == records => old.len(),
-            Misreading::EndOnNone if place == records => 0,
+    /// k, of a slot with these words before the edit, from the first record of each line.
+    fn edited(self, slot: &[u32], old: &[u32], new: &[u32], place: u32) -> usize {
+        let at_end = place == slot[3];
+        let holding = |starts: &[u32]| starts.iter().rposition(|&start| start <= place).unwrap_or(0);
+        match self {
+            Misreading::EndAfterLast if at_end => old.len(),
+            Misreading::EndOnNone if at_end => 0,
             Misreading::EditedInNew => holding(new),
+            Misreading::StoredPlace if !at_end => slot[PLACES + 2 * place as usize + 1] as usize,
             _ => holding(old),
-        };
-        if self == Misreading::FirstIsEdited {
-            k
-        } else {
-            k.saturating_sub(1)
         }
     }
 
-    /// r, where f is this.
-    fn again(self, old: &Starts, new: &Starts, edit: &Edit, f: usize) -> usize {
-        let (place, deleted, inserted) =
-            (edit.place as usize, edit.deleted as usize, edit.inserted_records());
+    /// r, from the first record of each line.
+    fn again(self, old: &[u32], new: &[u32], edit: &Edit, f: usize) -> usize {
+        let (deleted, inserted) = (edit.deleted, edit.inserted_records() as u32);
+        let end = edit.place + inserted;
         let least_line = if self == Misreading::NewLineZero { f } else { f.max(1) };
         let least_old_line = if self == Misreading::OldLineZero { 0 } else { 1 };
         let least_start = match self {
             Misreading::AnywhereAgain => 0,
-            Misreading::PlaceAgain => place,
-            Misreading::AfterEnd => place + inserted + 1,
-            _ => place + inserted,
+            Misreading::PlaceAgain => edit.place,
+            Misreading::AfterEnd => end + 1,
+            _ => end,
         };
-        let before = |start: usize| match self {
+        let before = |start: u32| match self {
             Misreading::NoChange => Some(start),
             Misreading::ChangeExchanged => (start + inserted).checked_sub(deleted),
             _ => (start + deleted).checked_sub(inserted),
         };
-        let started_before = |start: usize| {
-            self == Misreading::AnyStart
-                || old.iter().skip(least_old_line).any(|&old| Some(old) == before(start))
+        let started_before = |start: u32| {
+            let mut old_starts = old.iter().skip(least_old_line);
+            self == Misreading::AnyStart || old_starts.any(|&old_start| Some(old_start) == before(start))
         };
         let is_r = |line: &usize| new[*line] >= least_start && started_before(new[*line]);
         let none = if self == Misreading::NoneIsOldCount { old.len() } else { new.len() };
