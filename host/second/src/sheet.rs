@@ -80,7 +80,7 @@ pub fn set_up(sheet: &mut [u32], clinics: &[u32], measures: &[u32], indents: &[u
     Answer::from(outcome)
 }
 
-/// Edit: deletes records at a place, inserts others there and composes the slot anew.
+/// Edit: deletes records at a place, inserts others there and composes the slot.
 pub fn edit(sheet: &mut [u32], edit: Edit) -> EditAnswer {
     EditAnswer::from(try_edit(sheet, edit))
 }
