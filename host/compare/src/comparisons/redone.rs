@@ -196,10 +196,11 @@ fn with_other_lines_stored(seed: u64) -> Case {
     ];
 
     let mut head = [CLINIC, measure, indent, text.len() as u32 / 6];
-    match random.below(6) {
-        0 => head[1] = random.between(measure / 2 + indent + 1, 2 * measure).min(LARGEST_MEASURE),
-        1 => head[2] = style.indent(&mut random, measure),
-        2 => head[3] = random.below(head[3] + 1),
+    match random.below(30) {
+        0..5 => head[1] = random.between(measure / 2 + indent + 1, 2 * measure).min(LARGEST_MEASURE),
+        5..10 => head[2] = style.indent(&mut random, measure),
+        10..15 => head[3] = random.below(head[3] + 1),
+        15 => calls.extend([4].into_iter().chain(PLACES..SLOT).map(|at| written_over(&mut random, at))),
         _ => calls.extend((0..random.between(1, 12)).map(|_| other_line_word(&mut random))),
     }
     calls.extend((1..4).map(|at| Call::Damage { at, word: head[at] }));
@@ -220,6 +221,11 @@ fn other_line_word(random: &mut Random) -> Call {
         2 => LINES + 3 * random.below(12) as usize,
         _ => LINES + random.below(768) as usize,
     };
+    written_over(random, at)
+}
+
+/// Writes over a word, mostly with a number that a line or a record may have.
+fn written_over(random: &mut Random, at: usize) -> Call {
     let word = if random.once_in(3) { random.one_of(&EDGES) } else { random.below(40) };
     Call::Damage { at, word }
 }
