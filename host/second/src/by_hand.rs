@@ -139,12 +139,14 @@ const SIX_LINES: Text = &[(30, K)];
 const STOP_IN_LINE_1: Text = &[(6, K), (1, FULL_STOP), (8, K)];
 
 /// Request 03, "How many lines did my edit redo?".
-pub const EDITS: [EditCase; 16] = [
+pub const EDITS: [EditCase; 18] = [
     EditCase::new("one of the last line", (440, 0), SIX_LINES, (27, 1, &[(1, K)]), (4, 6), 6),
     EditCase::new("its own line has room", (440, 0), SIX_LINES, (12, 0, &[(1, SMALL)]), (1, 3), 6),
     EditCase::new("every later line moves on by one", (440, 0), SIX_LINES, (12, 0, &[(1, K)]), (1, 7), 7),
     EditCase::new("at the end", (440, 0), SIX_LINES, (30, 0, &[(1, K)]), (4, 7), 7),
     EditCase::new("at the start", (440, 0), SIX_LINES, (0, 0, &[(1, K)]), (0, 7), 7),
+    EditCase::new("a line before line 0", (440, 0), SIX_LINES, (0, 0, &[(5, K)]), (0, 2), 7),
+    EditCase::new("two lines, by their like", (440, 0), SIX_LINES, (5, 10, &[(10, K)]), (0, 3), 6),
     EditCase::new("line 0 goes", (440, 0), SIX_LINES, (0, 5, &[]), (0, 1), 5),
     EditCase::new("into an empty slot", (440, 0), &[], (0, 0, &[(6, K)]), (0, 2), 2),
     EditCase::new("everything goes", (440, 0), SIX_LINES, (0, 30, &[]), (0, 0), 0),
