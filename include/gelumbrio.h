@@ -43,10 +43,17 @@ typedef struct SlotNumber { uint32_t number; } SlotNumber; /* from 0 */
  *   9  a group rule is broken                                         the first such record
  *  10  no breaking exists                                             the first record of the first too wide run
  *  11  set-up: a clinic, measure or indent out of limits              the first such slot
- * Read's number is 0, 1, 2 or 3, then 4 where the stored line count exceeds 256. Ruby place's is 0 or 8.
- * Edit's answer is a type of its own, apart from set-up's, so that it can tell more than a number and a place. */
+ * Read's number is 0, 1, 2 or 3, then 4 where the stored line count exceeds 256. Ruby place's is 0 or 8. */
 typedef struct Answer { uint32_t number, place; } Answer;
-typedef struct EditAnswer { uint32_t number, place; } EditAnswer;
+
+/* Edit also answers how many lines were composed anew, `redone`; refused, 0. They are the new lines from f up to r:
+ *   f is the line before the old one that held the place, or before the last old one where the place is the end;
+ *     it is 0 where that would be before line 0, and where there were no lines;
+ *   r is the first new line, from f on and not line 0, that starts at or after the end of the inserted records and
+ *     whose first record also started an old line, not line 0; where there is none, it is the line count.
+ * New lines before f are the old ones, with their places. Those from r on are old ones too, moved only by the change
+ * in record and line numbers. The old lines are those that the rules give the old records, whatever is stored. */
+typedef struct EditAnswer { uint32_t number, place, redone; } EditAnswer;
 typedef struct RubyPlace { uint32_t number, offset; } RubyPlace;
 
 /* A part of the sheet: the words from start up to end; 0, 0 where the read is refused. */
@@ -57,7 +64,7 @@ Answer gelumbrio_set_up(uint32_t *sheet, size_t sheet_length, const uint32_t *cl
                         const uint32_t *measures, size_t measures_length, const uint32_t *indents,
                         size_t indents_length);
 
-/* Takes `deleted` records out at `place`, puts the inserted ones in there, and composes the slot anew. */
+/* Takes `deleted` records out at `place`, puts the inserted ones in there, and composes the slot. */
 EditAnswer gelumbrio_edit(uint32_t *sheet, size_t sheet_length, Clinic caller, SlotNumber slot, uint32_t place,
                           uint32_t deleted, const uint32_t *inserted, size_t inserted_length);
 

@@ -3,7 +3,7 @@
 use second::book::Book;
 
 use crate::calls::{Call, Words};
-use crate::layout::{CLASSES, SLOT};
+use crate::layout::{CLASSES, LARGEST_MEASURE, SLOT};
 use crate::random::Random;
 
 /// Numbers at the limits of document 01 and of 32 bits.
@@ -23,6 +23,18 @@ pub fn usual_advance(class: u32, size: u32) -> u32 {
 /// A record outside groups.
 pub fn plain(class: u32, size: u32) -> Words {
     [0x3042, class, size, usual_advance(class, size), 0, 0]
+}
+
+/// All texts over an alphabet of up to this many records, the shortest first.
+pub fn all_texts(alphabet: &[Words], longest: u32) -> Vec<Vec<u32>> {
+    let mut all = vec![Vec::new()];
+    let mut last = all.clone();
+    for _ in 0..longest {
+        let longer = |words: &Vec<u32>| alphabet.iter().map(|record| [words, &record[..]].concat()).collect();
+        last = last.iter().flat_map::<Vec<Vec<u32>>, _>(longer).collect();
+        all.extend_from_slice(&last);
+    }
+    all
 }
 
 /// What a paragraph is made of.
@@ -58,7 +70,7 @@ impl Style {
         let size = random.one_of(self.sizes);
         let units = random.one_of(&[1, 2, 4, 8, 16, 30, 300]);
         let measure = size * units + random.below(size * units);
-        measure.clamp(8, 1_000_000)
+        measure.clamp(8, LARGEST_MEASURE)
     }
 
     /// Mostly none, else anything below the measure.

@@ -1,11 +1,11 @@
-//! One slot on each side, whose whole text is replaced again and again: the quick way to compare
-//! many paragraphs. What the last text left behind is compared too.
+//! One slot on each side, whose whole text is replaced again and again, or edited: the quick way to
+//! compare many paragraphs and edits. What the last text left behind is compared too.
 
-use second::Edit;
+use second::{kept, Edit, EditAnswer};
 
 use crate::calls::{Call, Case};
 use crate::failure::Failure;
-use crate::layout::{LINES, SLOT};
+use crate::layout::{record_words, LINES, SLOT};
 use crate::program::{Program, Second};
 use crate::tally::{Outcome, Tally};
 
@@ -18,6 +18,8 @@ pub struct OneSlot<'a> {
     program: &'a dyn Program,
     tested: Vec<u32>,
     second: Vec<u32>,
+    /// The words that the last edit met on the tested side.
+    before: Vec<u32>,
     /// Measure and indent, once the slot is set up.
     setting: Option<(u32, u32)>,
     /// The records that the slot holds.
@@ -35,6 +37,7 @@ impl<'a> OneSlot<'a> {
             program,
             tested: vec![0; SLOT],
             second: vec![0; SLOT],
+            before: vec![0; SLOT],
             setting: None,
             records: Vec::new(),
             tally: Tally::default(),
@@ -54,17 +57,34 @@ impl<'a> OneSlot<'a> {
 
     /// Puts these records in place of all others.
     pub fn replace(&mut self, records: &[u32]) -> Result<(), Failure> {
-        let deleted = (self.records.len() / 6) as u32;
-        let edit = Edit { caller: CLINIC, slot: 0, place: 0, deleted, inserted: records };
-        let tested = self.program.edit(&mut self.tested, edit);
-        let second = Second.edit(&mut self.second, edit);
-        self.tally.count(Outcome::Edit(second.number));
-        self.compared(tested == second, || Call::replace(CLINIC, deleted, records))?;
-        if second.number == 0 {
-            self.records.clear();
-            self.records.extend_from_slice(records);
-        }
+        self.make(own(0, (self.records.len() / 6) as u32, records))?;
         Ok(())
+    }
+
+    /// Deletes so many records at a place and inserts others there. The lines that the program under test
+    /// does not report as composed anew must be as they were. Its answer comes back.
+    pub fn edit(&mut self, place: u32, deleted: u32, inserted: &[u32]) -> Result<EditAnswer, Failure> {
+        self.before.copy_from_slice(&self.tested);
+        let edit = own(place, deleted, inserted);
+        let answer = self.make(edit)?;
+        if answer.number != 0 {
+            return Ok(answer);
+        }
+        match kept::redone_lines(&self.before, &self.tested, &edit, answer.redone) {
+            Ok(lines) => self.tally.count(Outcome::of_redone(&lines, answer.place as usize)),
+            Err(_) => return Err(self.failure(record_words(&self.before), edit_call(edit))),
+        }
+        Ok(answer)
+    }
+
+    /// The records that both programs hold.
+    pub fn records(&self) -> &[u32] {
+        &self.records
+    }
+
+    /// The words that both programs hold.
+    pub fn words(&self) -> &[u32] {
+        &self.second
     }
 
     /// How many records stand on the first line of the text that both programs hold.
@@ -74,20 +94,48 @@ impl<'a> OneSlot<'a> {
         (if lines > 1 { next_line } else { records }) as usize
     }
 
+    /// Makes an edit on both sides.
+    fn make(&mut self, edit: Edit) -> Result<EditAnswer, Failure> {
+        let tested = self.program.edit(&mut self.tested, edit);
+        let second = Second.edit(&mut self.second, edit);
+        self.tally.count(Outcome::Edit(second.number));
+        self.compared(tested == second, || edit_call(edit))?;
+        if second.number == 0 {
+            let (from, to) = (6 * edit.place as usize, 6 * (edit.place + edit.deleted) as usize);
+            self.records.splice(from..to, edit.inserted.iter().copied());
+        }
+        Ok(tested)
+    }
+
     /// A failure where answers or words differ after this call.
     fn compared(&self, same_answer: bool, call: impl Fn() -> Call) -> Result<(), Failure> {
         if same_answer && self.tested == self.second {
             return Ok(());
         }
+        Err(self.failure(&self.records, call()))
+    }
+
+    /// What a call failed on that met these records.
+    fn failure(&self, records: &[u32], call: Call) -> Failure {
         // The last set-up and the text give a slot the words that the call met.
         let mut calls = Vec::new();
         if let Some(setting) = self.setting {
-            calls.extend([set_up_call(setting), Call::replace(CLINIC, 0, &self.records)]);
+            calls.extend([set_up_call(setting), Call::replace(CLINIC, 0, records)]);
         }
-        calls.push(call());
+        calls.push(call);
         let case = Case { length: SLOT, junk: None, calls };
-        Err(Failure::new(self.test, self.seed, self.program, &case))
+        Failure::new(self.test, self.seed, self.program, &case)
     }
+}
+
+/// The edit of the slot by its clinic.
+fn own(place: u32, deleted: u32, inserted: &[u32]) -> Edit<'_> {
+    Edit { caller: CLINIC, slot: 0, place, deleted, inserted }
+}
+
+fn edit_call(edit: Edit) -> Call {
+    let Edit { caller, slot, place, deleted, inserted } = edit;
+    Call::Edit { caller, slot, place, deleted, inserted: inserted.to_vec() }
 }
 
 fn set_up_call((measure, indent): (u32, u32)) -> Call {

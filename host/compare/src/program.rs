@@ -77,7 +77,7 @@ impl Program for Proved {
     fn edit(&self, sheet: &mut [u32], edit: Edit<'_>) -> EditAnswer {
         let (caller, slot) = (gelumbrio::Clinic(edit.caller), gelumbrio::SlotNumber(edit.slot));
         let answer = gelumbrio::raw::edit(sheet, caller, slot, edit.place, edit.deleted, edit.inserted);
-        EditAnswer { number: answer.number, place: answer.place }
+        EditAnswer { number: answer.number, place: answer.place, redone: answer.redone }
     }
 
     fn read_number(&self, sheet: &[u32], caller: u32, slot: u32) -> u32 {

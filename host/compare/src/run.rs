@@ -4,10 +4,10 @@ use std::fmt::Debug;
 use std::ops::Range;
 
 use second::book::Book;
-use second::Edit;
+use second::{kept, Edit};
 
 use crate::calls::{Call, Case};
-use crate::layout;
+use crate::layout::{self, record_words, slot_words};
 use crate::program::{Program, Second, SECOND};
 use crate::tally::{Outcome, Tally};
 
@@ -75,6 +75,7 @@ impl<'a> Run<'a> {
     }
 
     fn edit(&mut self, edit: Edit<'_>) -> Result<(), String> {
+        let before = slot_words(&self.tested, edit.slot).map(<[u32]>::to_vec);
         let tested = self.program.edit(&mut self.tested, edit);
         let second = Second.edit(&mut self.second, edit);
         same_answer(tested, second, SECOND)?;
@@ -83,6 +84,20 @@ impl<'a> Run<'a> {
             same_answer(tested, book, "the book")?;
         }
         self.tally.count(Outcome::Edit(second.number));
+        match before {
+            Some(before) if tested.number == 0 => self.keeps_other_lines(before, edit, tested.redone),
+            _ => Ok(()),
+        }
+    }
+
+    /// Whether the program under test left the lines as they were that it did not compose anew, by its
+    /// own words and report. Where the book does not speak for the sheet, the stored lines may be any,
+    /// and the old ones are those that the rules give the records.
+    fn keeps_other_lines(&mut self, before: Vec<u32>, edit: Edit<'_>, redone: u32) -> Result<(), String> {
+        let old = if self.book_holds { before } else { as_the_rules_give(&before)? };
+        let new = slot_words(&self.tested, edit.slot).unwrap_or_default();
+        let lines = kept::redone_lines(&old, new, &edit, redone)?;
+        self.tally.count(Outcome::of_redone(&lines, new[4] as usize));
         Ok(())
     }
 
@@ -112,6 +127,12 @@ impl<'a> Run<'a> {
         }
         self.book_holds = false;
     }
+}
+
+/// The slot's words with the lines and places that the rules give its records.
+fn as_the_rules_give(slot: &[u32]) -> Result<Vec<u32>, String> {
+    let words = second::slot_words(slot[0], slot[1], slot[2], record_words(slot));
+    words.map_err(|refusal| format!("it accepts an edit of records that are refused with {refusal:?}"))
 }
 
 /// Whether two answers of a call are the same; otherwise what to tell.

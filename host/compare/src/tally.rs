@@ -17,7 +17,22 @@ pub enum Way {
     Short,
 }
 
-/// What a call answered, or how a line was composed that a comparison was after.
+/// Which of its lines an accepted edit composed anew.
+#[derive(Debug, Clone, Copy, PartialEq, Eq, PartialOrd, Ord)]
+pub enum Redone {
+    /// None, as the slot has none.
+    None,
+    /// All of them.
+    All,
+    /// The first; lines as they were come after them.
+    First,
+    /// Some with lines as they were on both sides.
+    Middle,
+    /// The last; lines as they were come before them.
+    Last,
+}
+
+/// What a call answered, how a line was composed that a comparison was after, or which an edit redid.
 #[derive(Debug, Clone, Copy, PartialEq, Eq, PartialOrd, Ord)]
 pub enum Outcome {
     /// Set-up, with this number.
@@ -36,6 +51,8 @@ pub enum Outcome {
     Line(Way),
     /// A final line, brought to the measure so.
     FinalLine(Way),
+    /// An accepted edit, which composed these lines anew.
+    Redone(Redone),
 }
 
 impl Outcome {
@@ -48,6 +65,31 @@ impl Outcome {
         Outcome::ReadRefused(3),
         Outcome::ReadRefused(4),
     ];
+
+    /// Every choice of lines that an edit can compose anew.
+    pub const REDONE: [Outcome; 5] = [
+        Outcome::Redone(Redone::None),
+        Outcome::Redone(Redone::All),
+        Outcome::Redone(Redone::First),
+        Outcome::Redone(Redone::Middle),
+        Outcome::Redone(Redone::Last),
+    ];
+
+    /// The outcome of an edit that composed these of so many lines anew.
+    pub fn of_redone(lines: &Range<usize>, count: usize) -> Outcome {
+        Outcome::Redone(match (lines.start == 0, lines.end == count) {
+            _ if count == 0 => Redone::None,
+            (true, true) => Redone::All,
+            (true, false) => Redone::First,
+            (false, false) => Redone::Middle,
+            (false, true) => Redone::Last,
+        })
+    }
+
+    /// Whether it is what a call answered.
+    fn is_answer(&self) -> bool {
+        !matches!(self, Outcome::Line(_) | Outcome::FinalLine(_) | Outcome::Redone(_))
+    }
 
     /// The outcome of a read with this number and part.
     pub fn of_read(number: u32, part: &Range<usize>) -> Outcome {
@@ -76,8 +118,7 @@ impl Tally {
 
     /// All calls that were answered.
     pub fn calls(&self) -> u64 {
-        let is_line = |outcome: &Outcome| matches!(outcome, Outcome::Line(_) | Outcome::FinalLine(_));
-        self.0.iter().filter(|(outcome, _)| !is_line(outcome)).map(|(_, count)| count).sum()
+        self.0.iter().filter(|(outcome, _)| outcome.is_answer()).map(|(_, count)| count).sum()
     }
 
     /// Those of these outcomes that were seen fewer times than `least`.

@@ -1,9 +1,10 @@
 //! See `comparisons::cases`.
 
-use compare::tally::Outcome::{Edit, ReadLines, ReadNoLines, SetUp};
+use compare::tally::Outcome::{self, Edit, ReadLines, ReadNoLines, SetUp};
 
 #[test]
 fn cases() {
     let tally = compare::full("cases", compare::comparisons::cases::compare);
     tally.assert_seen(1, [SetUp(0), Edit(0), Edit(10), ReadLines, ReadNoLines]);
+    tally.assert_seen(1, Outcome::REDONE);
 }

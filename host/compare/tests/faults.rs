@@ -1,8 +1,10 @@
 //! Every planted fault is found, and the case that shows it is made small.
 
-use compare::comparisons::{digits, gaps, pairs, paragraphs, sequences, short, Comparison, ALL};
+use compare::comparisons::{digits, gaps, pairs, paragraphs, redone, sequences, short, Comparison, ALL};
 use compare::failure::{Failure, NOT_SEEN_AGAIN};
-use compare::faults::{Fault, CLASSES_AS, DIGITS, FIELDS, NARROW_FIELDS, SINGLE, TABLES};
+use compare::faults::{
+    Fault, Misreading, CLASSES_AS, DIGITS, FIELDS, MISREADINGS, NARROW_FIELDS, SINGLE, TABLES,
+};
 use compare::generate::plain;
 use compare::layout::{CLASSES, LINES};
 use compare::program::{Second, SECOND, UNDER_TEST};
@@ -95,6 +97,20 @@ fn sums_in_fields_wide_enough() {
         assert!(comparison(&packed, Scope::Brief).is_ok());
     }
     assert!(gaps::compare(&packed, Scope::Full).is_ok());
+}
+
+#[test]
+fn misreadings_of_the_redone_lines() {
+    each_is_found(&MISREADINGS.map(Fault::Redone), &[redone::compare], 4);
+}
+
+/// Their reports are otherwise what they should be.
+#[test]
+fn the_redone_lines_read_rightly() {
+    let sound = Fault::Redone(Misreading::Sound);
+    for comparison in ALL {
+        assert!(comparison(&sound, Scope::Brief).is_ok());
+    }
 }
 
 #[test]

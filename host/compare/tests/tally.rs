@@ -3,7 +3,7 @@
 use compare::comparisons::cases;
 use compare::program::Second;
 use compare::tally::Outcome::{self, Edit, FinalLine, Line, ReadLines, ReadNoLines, ReadRefused};
-use compare::tally::{Tally, Way};
+use compare::tally::{Redone, Tally, Way};
 use compare::Scope;
 
 /// A tally of each outcome of a read but this one.
@@ -39,6 +39,14 @@ fn reads_are_told_apart_by_their_lines() {
 #[test]
 fn lines_are_not_counted_as_calls() {
     let mut tally = Tally::default();
-    [Edit(0), Line(Way::Natural), FinalLine(Way::Shrunk(1))].into_iter().for_each(|seen| tally.count(seen));
+    let lines = [Line(Way::Natural), FinalLine(Way::Shrunk(1)), Outcome::Redone(Redone::All)];
+    [Edit(0)].into_iter().chain(lines).for_each(|seen| tally.count(seen));
     assert_eq!(tally.calls(), 1);
+}
+
+/// Lines f up to r, of so many.
+#[test]
+fn edits_are_told_apart_by_what_they_redo() {
+    let edits = [(0..0, 0), (0..3, 3), (0..2, 3), (1..2, 3), (1..3, 3)];
+    assert_eq!(edits.map(|(lines, count)| Outcome::of_redone(&lines, count)), Outcome::REDONE);
 }

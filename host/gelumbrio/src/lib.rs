@@ -11,8 +11,8 @@
 //!
 //! // Six ideographs of size 80 in a measure of 440.
 //! let ideograph = [0x6F22, 19, 80, 80, 0, 0];
-//! let lines = sheet.edit(Clinic(7), SlotNumber(0), 0, 0, &[ideograph; 6].concat())?;
-//! assert_eq!(lines, 2);
+//! let edited = sheet.edit(Clinic(7), SlotNumber(0), 0, 0, &[ideograph; 6].concat())?;
+//! assert_eq!((edited.lines, edited.redone), (2, 2));
 //!
 //! let lines = sheet.lines(Clinic(7), SlotNumber(0))?;
 //! assert_eq!((lines[0].kind, lines[0].xs.as_slice()), (Kind::Flush, &[0, 90, 180, 270, 360][..]));
@@ -45,7 +45,9 @@ mod sheet;
 
 pub use raw::{Clinic, SlotNumber};
 pub use refusal::Refusal;
-pub use sheet::{Kind, Line, Sheet, LINES_AT, MAX_SLOTS, PLACES_AT, RECORDS_AT, RECORD_WORDS, SLOT_WORDS};
+pub use sheet::{
+    Edited, Kind, Line, Sheet, LINES_AT, MAX_SLOTS, PLACES_AT, RECORDS_AT, RECORD_WORDS, SLOT_WORDS,
+};
 
 /// The offset of the k-th ruby character from the start of its group.
 ///

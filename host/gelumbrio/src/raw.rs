@@ -27,7 +27,7 @@ pub struct Answer {
     pub place: u32,
 }
 
-/// The answer of edit, apart from set-up's so that it can tell more than a number and a place.
+/// The answer of edit.
 #[repr(C)]
 #[derive(Debug, Clone, Copy, PartialEq, Eq)]
 pub struct EditAnswer {
@@ -35,6 +35,8 @@ pub struct EditAnswer {
     pub number: u32,
     /// The line count where the number is 0, otherwise the refusal's place.
     pub place: u32,
+    /// How many lines are composed anew; 0 where the edit is refused.
+    pub redone: u32,
 }
 
 /// The answer of ruby place.
@@ -103,7 +105,7 @@ pub fn set_up(sheet: &mut [u32], clinics: &[u32], measures: &[u32], indents: &[u
     }
 }
 
-/// Edit: deletes records at a place, inserts others there and composes the slot anew.
+/// Edit: deletes records at a place, inserts others there and composes the slot.
 pub fn edit(
     sheet: &mut [u32],
     caller: Clinic,

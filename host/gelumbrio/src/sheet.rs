@@ -24,6 +24,19 @@ pub struct Sheet {
     words: Vec<u32>,
 }
 
+/// What an accepted edit did to the lines of its slot.
+///
+/// New lines before the redone ones are as they were, with the places of their records. Those after them
+/// are old lines, moved only by the change in record and line numbers.
+#[derive(Debug, Clone, Copy, PartialEq, Eq)]
+pub struct Edited {
+    /// How many lines the slot has.
+    pub lines: u32,
+    /// How many of them are composed anew. The first is the line before the one that held the place, or
+    /// line 0.
+    pub redone: u32,
+}
+
 /// How a line ends.
 #[derive(Debug, Clone, Copy, PartialEq, Eq, Hash)]
 pub enum Kind {
@@ -96,8 +109,8 @@ impl Sheet {
         accepted(answer.number, answer.place).map(|_slots| ())
     }
 
-    /// Deletes records at a place, inserts others there and composes the slot anew. Place and
-    /// count are in records, `inserted` is in words. Says how many lines the slot has.
+    /// Deletes records at a place, inserts others there and composes the slot. Place and count are in
+    /// records, `inserted` is in words. Says how many lines the slot has, and how many were redone.
     pub fn edit(
         &mut self,
         caller: Clinic,
@@ -105,9 +118,10 @@ impl Sheet {
         place: u32,
         deleted: u32,
         inserted: &[u32],
-    ) -> Result<u32, Refusal> {
+    ) -> Result<Edited, Refusal> {
         let answer = raw::edit(&mut self.words, caller, slot, place, deleted, inserted);
-        accepted(answer.number, answer.place)
+        let lines = accepted(answer.number, answer.place)?;
+        Ok(Edited { lines, redone: answer.redone })
     }
 
     /// The slot's used line words, three for each line: first record, end x and kind.

@@ -1,6 +1,6 @@
 //! The safe face: sheets, typed lines and refusals in words.
 
-use gelumbrio::{ruby_place, Clinic, Kind, Line, Refusal, Sheet, SlotNumber, SLOT_WORDS};
+use gelumbrio::{ruby_place, Clinic, Edited, Kind, Line, Refusal, Sheet, SlotNumber, SLOT_WORDS};
 
 const CLINIC: Clinic = Clinic(7);
 const SLOT: SlotNumber = SlotNumber(0);
@@ -11,6 +11,11 @@ fn sheet(measure: u32) -> Sheet {
     let mut sheet = Sheet::new(2).unwrap();
     sheet.set_up(&[CLINIC, Clinic(9)], &[measure, 800], &[0, 0]).unwrap();
     sheet
+}
+
+/// What an edit says that is accepted.
+fn edited(lines: u32, redone: u32) -> Result<Edited, Refusal> {
+    Ok(Edited { lines, redone })
 }
 
 #[test]
@@ -28,7 +33,7 @@ fn a_sheet_has_1_to_64_slots() {
 fn typed_lines() {
     let mut sheet = sheet(400);
     let text = [K, K, K, K, K, FULL_STOP, K].concat();
-    assert_eq!(sheet.edit(CLINIC, SLOT, 0, 0, &text), Ok(2));
+    assert_eq!(sheet.edit(CLINIC, SLOT, 0, 0, &text), edited(2, 2));
     let expected = vec![
         Line { first_record: 0, end_x: 400, kind: Kind::Flush, xs: vec![0, 106, 213, 320] },
         Line { first_record: 4, end_x: 240, kind: Kind::Final, xs: vec![0, 80, 160] },
@@ -41,17 +46,27 @@ fn typed_lines() {
 #[test]
 fn words_can_be_kept_and_brought_back() {
     let mut sheet = sheet(100);
-    assert_eq!(sheet.edit(CLINIC, SLOT, 0, 0, &[K, K].concat()), Ok(2));
+    assert_eq!(sheet.edit(CLINIC, SLOT, 0, 0, &[K, K].concat()), edited(2, 2));
     let kept = sheet.clone().into_words();
     let back = Sheet::from_words(kept).unwrap();
     assert_eq!(back, sheet);
     assert_eq!(back.lines(CLINIC, SLOT).unwrap()[0].kind, Kind::Short);
 }
 
+#[test]
+fn an_edit_says_how_many_lines_it_redid() {
+    let mut sheet = sheet(440);
+    assert_eq!(sheet.edit(CLINIC, SLOT, 0, 0, &K.repeat(30)), edited(6, 6));
+    // A small one has room on line 2, whose neighbour before it counts too.
+    assert_eq!(sheet.edit(CLINIC, SLOT, 12, 0, &[0x6F22, 19, 8, 8, 0, 0]), edited(6, 2));
+    assert_eq!(sheet.edit(CLINIC, SLOT, 31, 0, &K), edited(7, 3));
+    assert_eq!(sheet.edit(CLINIC, SLOT, 0, 32, &[]), edited(0, 0));
+}
+
 /// Six ideographs on two lines: line words 0, 440, 1 and 5, 80, 3.
 fn two_lines() -> Sheet {
     let mut sheet = sheet(440);
-    assert_eq!(sheet.edit(CLINIC, SLOT, 0, 0, &[K; 6].concat()), Ok(2));
+    assert_eq!(sheet.edit(CLINIC, SLOT, 0, 0, &[K; 6].concat()), edited(2, 2));
     sheet
 }
 
@@ -84,7 +99,7 @@ fn damaged_lines_are_mended_by_any_accepted_edit() {
     ] {
         let mut sheet = damaged(&sound, at, word);
         assert_eq!(sheet.lines(CLINIC, SLOT), Err(Refusal::Damaged), "word {at} = {word}");
-        assert_eq!(sheet.edit(CLINIC, SLOT, 0, 0, &[]), Ok(2), "word {at} = {word}");
+        assert_eq!(sheet.edit(CLINIC, SLOT, 0, 0, &[]), edited(2, 1), "word {at} = {word}");
         assert_eq!(sheet, sound, "word {at} = {word}");
     }
 }
@@ -95,7 +110,7 @@ fn lines_are_held_against_the_record_count() {
     for (count, lines) in [(0, 0), (5, 1)] {
         let mut sheet = damaged(&two_lines(), 3, count);
         assert_eq!(sheet.lines(CLINIC, SLOT), Err(Refusal::Damaged), "{count} records");
-        assert_eq!(sheet.edit(CLINIC, SLOT, 0, 0, &[]), Ok(lines));
+        assert_eq!(sheet.edit(CLINIC, SLOT, 0, 0, &[]), edited(lines, lines));
         assert_eq!(sheet.lines(CLINIC, SLOT).map(|typed| typed.len()), Ok(lines as usize));
     }
 }

@@ -9,14 +9,25 @@ pub struct Answer {
     pub place: u32,
 }
 
-/// The answer of edit: 0 and the line count, or a refusal's number and place. It is apart from
-/// set-up's, so that an edit can tell more than these two.
+/// The answer of edit: 0, the line count and how many of these lines are composed anew, or a refusal's
+/// number and place.
 #[derive(Debug, Clone, Copy, PartialEq, Eq)]
 pub struct EditAnswer {
     /// 0, or the refusal's number.
     pub number: u32,
     /// The line count where the number is 0, otherwise the refusal's place.
     pub place: u32,
+    /// The number of lines composed anew (document 02, request 03); 0 where the edit is refused.
+    pub redone: u32,
+}
+
+/// What an accepted edit tells.
+#[derive(Debug, Clone, Copy, PartialEq, Eq)]
+pub struct Edited {
+    /// How many lines the slot has.
+    pub lines: usize,
+    /// How many of them are composed anew.
+    pub redone: usize,
 }
 
 impl From<Result<usize, Refusal>> for Answer {
@@ -27,11 +38,10 @@ impl From<Result<usize, Refusal>> for Answer {
     }
 }
 
-impl From<Result<usize, Refusal>> for EditAnswer {
-    /// From the line count, or why the edit is refused.
-    fn from(outcome: Result<usize, Refusal>) -> EditAnswer {
-        let (number, place) = number_and_place(outcome);
-        EditAnswer { number, place }
+impl From<Result<Edited, Refusal>> for EditAnswer {
+    fn from(outcome: Result<Edited, Refusal>) -> EditAnswer {
+        let (number, place) = number_and_place(outcome.map(|edited| edited.lines));
+        EditAnswer { number, place, redone: outcome.map_or(0, |edited| edited.redone as u32) }
     }
 }
 

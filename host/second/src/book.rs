@@ -6,9 +6,9 @@
 
 use crate::answer::{Answer, EditAnswer, Refusal};
 use crate::breaking::Setting;
-use crate::compose::compose;
+use crate::compose::{break_into_lines, compose};
 use crate::records::{spliced, Record};
-use crate::sheet::{check_caller, check_set_up, line_words, slot_count, slot_words, Edit};
+use crate::sheet::{check_caller, check_set_up, edited, line_words, slot_count, slot_words, Edit};
 
 /// A slot of the book.
 #[derive(Debug, Clone)]
@@ -82,8 +82,9 @@ impl Book {
             let entry = &mut self.entries[slot];
             let records = spliced(&entry.records, edit.place, edit.deleted, edit.inserted)?;
             let composition = compose(&records, entry.setting)?;
+            let old_lines = break_into_lines(&entry.records, entry.setting)?;
             entry.records = records;
-            Ok(composition.lines.len())
+            Ok(edited(&old_lines, &composition, &edit))
         });
         EditAnswer::from(outcome)
     }

@@ -6,6 +6,7 @@ use crate::adjust::{adjust, Kind};
 use crate::answer::Refusal;
 use crate::breaking::{Breaker, Setting};
 use crate::records::{first_group_fault, Record};
+use crate::redone::Lines;
 use crate::units::units;
 
 /// Where a record stands.
@@ -37,38 +38,50 @@ pub struct Composition {
     pub lines: Vec<Line>,
 }
 
-/// Whether these records can be composed; otherwise answer 9 or 10.
-pub fn check(records: &[Record], setting: Setting) -> Result<(), Refusal> {
-    check_groups(records)?;
-    check_breaking(&Breaker::new(&units(records), setting))
+/// The lines of these records, which are not adjusted; or answer 9 or 10.
+pub fn break_into_lines(records: &[Record], setting: Setting) -> Result<Lines, Refusal> {
+    with_breaker(records, setting, |breaker| {
+        let first_record = |line: Range<usize>| breaker.units[line.start].first;
+        Lines { starts: breaker.lines().into_iter().map(first_record).collect(), records: records.len() }
+    })
 }
 
 /// The paragraph of these records, or answer 9 or 10.
 pub fn compose(records: &[Record], setting: Setting) -> Result<Composition, Refusal> {
-    check_groups(records)?;
+    with_breaker(records, setting, |breaker| {
+        let lines = breaker.lines();
+        let mut composition =
+            Composition { places: Vec::with_capacity(records.len()), lines: Vec::with_capacity(lines.len()) };
+        for line in lines {
+            composition.add_line(breaker, line, setting.measure);
+        }
+        composition
+    })
+}
+
+/// What is made of these records where they can be broken into lines; otherwise answer 9 or 10.
+fn with_breaker<T>(
+    records: &[Record],
+    setting: Setting,
+    make: impl FnOnce(&Breaker) -> T,
+) -> Result<T, Refusal> {
+    if let Some(at) = first_group_fault(records) {
+        return Err(Refusal::Group(at));
+    }
     let units = units(records);
     let breaker = Breaker::new(&units, setting);
-    check_breaking(&breaker)?;
-
-    let lines = breaker.lines();
-    let mut composition =
-        Composition { places: Vec::with_capacity(records.len()), lines: Vec::with_capacity(lines.len()) };
-    for line in lines {
-        composition.add_line(&breaker, line, setting.measure);
+    match breaker.first_wide_run() {
+        Some(at) => Err(Refusal::NoBreaking(at)),
+        None => Ok(make(&breaker)),
     }
-    Ok(composition)
-}
-
-fn check_groups(records: &[Record]) -> Result<(), Refusal> {
-    first_group_fault(records).map_or(Ok(()), |at| Err(Refusal::Group(at)))
-}
-
-fn check_breaking(breaker: &Breaker) -> Result<(), Refusal> {
-    let wide = breaker.first_wide_run();
-    wide.map_or(Ok(()), |at| Err(Refusal::NoBreaking(at)))
 }
 
 impl Composition {
+    /// Which records stand on each of its lines.
+    pub fn extents(&self) -> Lines {
+        Lines { starts: self.lines.iter().map(|line| line.first).collect(), records: self.places.len() }
+    }
+
     /// Sets the next line, which holds these units.
     fn add_line(&mut self, breaker: &Breaker, line: Range<usize>, measure: u32) {
         let start_x = breaker.start_x(line.start);

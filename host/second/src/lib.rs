@@ -13,9 +13,11 @@
 //! | [`breaking`] | "Breaks and adjustment", where lines end; request 01 |
 //! | [`adjust`] | "Breaks and adjustment", how a line is brought to the measure |
 //! | [`compose`] | the lines and places of a whole paragraph |
+//! | [`redone`] | how many lines an edit composes anew: document 02, request 03 |
 //! | [`sheet`] | "The sheet", its layout and its calls |
 //! | [`book`] | "The book of demand 3" |
 //! | [`by_hand`] | "Composed by hand", C1 to C13, and the requests' cases, to test a program with |
+//! | [`kept`] | what request 03 promises of the other lines, to test a program with |
 //!
 //! No input makes a call panic. Sums stay far below 2^32: a paragraph has at most 256 units, a
 //! unit's advance is at most 128,000 (64 ruby characters of size 2,000), a space at most 3,000 and
@@ -29,7 +31,9 @@ pub mod book;
 pub mod breaking;
 pub mod by_hand;
 pub mod compose;
+pub mod kept;
 pub mod records;
+pub mod redone;
 pub mod sheet;
 pub mod spacing;
 pub mod units;

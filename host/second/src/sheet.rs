@@ -3,10 +3,11 @@
 
 use std::ops::Range;
 
-use crate::answer::{Answer, EditAnswer, Refusal};
+use crate::answer::{Answer, EditAnswer, Edited, Refusal};
 use crate::breaking::Setting;
-use crate::compose::{check, compose, Composition};
+use crate::compose::{break_into_lines, compose, Composition};
 use crate::records::{decode_all, spliced, Record, MAX_RECORDS, RECORD_WORDS};
+use crate::redone::{redone_lines, Lines};
 
 /// The most slots a sheet may have.
 pub const MAX_SLOTS: usize = 64;
@@ -59,6 +60,13 @@ pub struct Edit<'a> {
     pub inserted: &'a [u32],
 }
 
+impl Edit<'_> {
+    /// How many records it inserts.
+    pub fn inserted_records(&self) -> usize {
+        self.inserted.len() / RECORD_WORDS
+    }
+}
+
 /// Set-up: gives each slot its clinic, measure and indent and empties it.
 pub fn set_up(sheet: &mut [u32], clinics: &[u32], measures: &[u32], indents: &[u32]) -> Answer {
     let outcome = check_set_up(sheet.len(), clinics, measures, indents);
@@ -72,7 +80,7 @@ pub fn set_up(sheet: &mut [u32], clinics: &[u32], measures: &[u32], indents: &[u
     Answer::from(outcome)
 }
 
-/// Edit: deletes records at a place, inserts others there and composes the slot anew.
+/// Edit: deletes records at a place, inserts others there and composes the slot.
 pub fn edit(sheet: &mut [u32], edit: Edit) -> EditAnswer {
     EditAnswer::from(try_edit(sheet, edit))
 }
@@ -147,17 +155,23 @@ pub fn line_words(composition: &Composition) -> impl Iterator<Item = [u32; LINE_
 }
 
 /// The table in its order: each step gives the answers beside it.
-fn try_edit(sheet: &mut [u32], edit: Edit) -> Result<usize, Refusal> {
+fn try_edit(sheet: &mut [u32], edit: Edit) -> Result<Edited, Refusal> {
     slot_count(sheet.len())?; // 1
     let (slots, _) = sheet.as_chunks_mut::<SLOT_WORDS>();
     let slot = slots.get_mut(edit.slot as usize).ok_or(Refusal::Slot)?; // 2
     let head = Head::of(slot);
     check_caller(edit.caller, head.clinic)?; // 3
-    let stored = stored_records(slot, &head).ok_or(Refusal::Stored)?; // 4
+    let (stored, old_lines) = stored_text(slot, &head).ok_or(Refusal::Stored)?; // 4
     let records = spliced(&stored, edit.place, edit.deleted, edit.inserted)?; // 5 to 8
     let composition = compose(&records, head.setting)?; // 9 and 10
     write(slot, &records, &composition);
-    Ok(composition.lines.len())
+    Ok(edited(&old_lines, &composition, &edit))
+}
+
+/// What an edit tells that has these old lines and leaves this composition.
+pub fn edited(old_lines: &Lines, composition: &Composition, edit: &Edit) -> Edited {
+    let redone = redone_lines(old_lines, &composition.extents(), edit);
+    Edited { lines: composition.lines.len(), redone: redone.len() }
 }
 
 fn try_read(sheet: &[u32], caller: u32, slot: u32) -> Result<Range<usize>, Refusal> {
@@ -174,16 +188,17 @@ fn try_read(sheet: &[u32], caller: u32, slot: u32) -> Result<Range<usize>, Refus
     Ok(start..start + count * LINE_WORDS)
 }
 
-/// The records that a slot holds, unless the slot is damaged (answer 4).
-fn stored_records(slot: &Slot, head: &Head) -> Option<Vec<Record>> {
+/// The records that a slot holds with the lines that the rules give them, unless the slot is damaged
+/// (answer 4). What lines are stored does not matter.
+fn stored_text(slot: &Slot, head: &Head) -> Option<(Vec<Record>, Lines)> {
     if !head.setting.in_limits() {
         return None;
     }
     let (words, _) = slot[RECORDS_AT..PLACES_AT].as_chunks::<RECORD_WORDS>();
     let stored = words.get(..head.record_count as usize)?;
     let records = decode_all(stored).ok()?;
-    check(&records, head.setting).ok()?;
-    Some(records)
+    let lines = break_into_lines(&records, head.setting).ok()?;
+    Some((records, lines))
 }
 
 /// A slot as set-up leaves it.

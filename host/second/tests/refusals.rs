@@ -213,7 +213,7 @@ fn number_10() {
 
 #[test]
 fn slot_words_answers_as_the_edit_of_a_fresh_slot() {
-    let refusal = |number, place| EditAnswer { number, place };
+    let refusal = |number, place| EditAnswer { number, place, redone: 0 };
     assert_eq!(slot_words(1, 7, 0, &[]), Err(refusal(4, 0)));
     assert_eq!(slot_words(1, 80, 80, &[]), Err(refusal(4, 0)));
     assert_eq!(slot_words(1, 80, 0, &[0; 7]), Err(refusal(6, 0)));

@@ -1,12 +1,13 @@
 //! C1 to C13 (document 01, "Composed by hand") and the cases of document 02's requests, against the
 //! numbers on the paper and beside the second program.
 
-use second::by_hand::{self, PAPERS, RUBY};
+use second::by_hand::{self, EDITS, PAPERS, RUBY};
 use second::Edit;
 
 use crate::calls::{Call, Case};
 use crate::failure::Failure;
 use crate::layout::SLOT;
+use crate::one_slot::OneSlot;
 use crate::program::Program;
 use crate::run::{run, same_answer, same_words};
 use crate::tally::Tally;
@@ -34,6 +35,9 @@ pub fn compare(program: &dyn Program, _scope: Scope) -> Result<Tally, Failure> {
         as_on_paper(program, case)
             .map_err(|difference| paper_failure(program, paper, case.name, difference))?;
     }
+    for case in EDITS {
+        tally.add(&edit(program, &case)?);
+    }
     for (name, base_advance, expected) in RUBY {
         let offsets = [0, 1, 2].map(|k| program.ruby_place(base_advance, 3, 80, k).offset);
         if offsets != expected {
@@ -42,6 +46,17 @@ pub fn compare(program: &dyn Program, _scope: Scope) -> Result<Tally, Failure> {
         }
     }
     Ok(tally)
+}
+
+/// An edit of request 03, beside the second program and as on the paper.
+fn edit(program: &dyn Program, case: &by_hand::EditCase) -> Result<Tally, Failure> {
+    let mut slot = OneSlot::new(TEST, None, program);
+    slot.set_up(case.setting.0, case.setting.1)?;
+    slot.replace(&case.old())?;
+    let answer = slot.edit(case.place, case.deleted, &case.inserted())?;
+    same_answer(answer, case.expected(), PAPER)
+        .map_err(|difference| paper_failure(program, "document 02, request 03", case.name, difference))?;
+    Ok(slot.tally)
 }
 
 fn paper_failure(program: &dyn Program, paper: &str, name: &str, difference: String) -> Failure {

@@ -14,7 +14,7 @@ use crate::calls::Words;
 use crate::comparisons::pairs::for_each_pair;
 use crate::failure::Failure;
 use crate::generate::plain;
-use crate::layout::CLASSES;
+use crate::layout::{CLASSES, LARGEST_MEASURE};
 use crate::one_slot::OneSlot;
 use crate::program::Program;
 use crate::tally::{Outcome, Tally, Way};
@@ -24,7 +24,6 @@ const TEST: &str = "gaps";
 const MOST_RECORDS: usize = 256;
 const LARGEST_SIZE: u32 = 4_000;
 const LEAST_MEASURE: u32 = 8;
-const LARGEST_MEASURE: u32 = 1_000_000;
 
 /// The most by which a line is stretched in stage 2.
 const MOST_OPENED: u32 = 100;

@@ -7,6 +7,7 @@ pub mod junk;
 pub mod limits;
 pub mod pairs;
 pub mod paragraphs;
+pub mod redone;
 pub mod ruby;
 pub mod sequences;
 pub mod short;
@@ -20,7 +21,7 @@ use crate::Scope;
 pub type Comparison = fn(&dyn Program, Scope) -> Result<Tally, Failure>;
 
 /// All comparisons, the quickest first.
-pub const ALL: [Comparison; 10] = [
+pub const ALL: [Comparison; 11] = [
     cases::compare,
     ruby::compare,
     limits::compare,
@@ -29,6 +30,7 @@ pub const ALL: [Comparison; 10] = [
     pairs::compare,
     gaps::compare,
     paragraphs::compare,
+    redone::compare,
     sequences::compare,
     short::compare,
 ];

@@ -3,7 +3,7 @@
 
 use crate::calls::Words;
 use crate::failure::Failure;
-use crate::generate::plain;
+use crate::generate::{all_texts, plain};
 use crate::layout::{CLASSES, LINES};
 use crate::one_slot::OneSlot;
 use crate::program::Program;
@@ -73,14 +73,8 @@ fn all(slot: &mut OneSlot, alphabet: &[Words], longest: u32, indent: u32) -> Res
 }
 
 fn paragraphs(alphabet: &[Words], longest: u32) -> Vec<Paragraph> {
-    let mut all = vec![Vec::new()];
-    let mut last = all.clone();
-    for _ in 0..longest {
-        let longer = |words: &Vec<u32>| alphabet.iter().map(|record| [words, &record[..]].concat()).collect();
-        last = last.iter().flat_map::<Vec<Vec<u32>>, _>(longer).collect();
-        all.extend_from_slice(&last);
-    }
-    all.into_iter().map(|words| Paragraph { width: natural_width(&words), words }).collect()
+    let all = all_texts(alphabet, longest).into_iter();
+    all.map(|words| Paragraph { width: natural_width(&words), words }).collect()
 }
 
 /// The end of the only line in the widest measure. A paragraph that breaks a group rule has no

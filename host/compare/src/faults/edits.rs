@@ -4,12 +4,10 @@ use std::ops::RangeInclusive;
 
 use second::{Edit, EditAnswer};
 
-use super::slots::{
-    slot_words, slot_words_mut, spoil_next_slot, spoil_slot, store_records, stored_records, whole_slots,
-};
+use super::slots::{slot_words_mut, spoil_next_slot, spoil_slot, store_records, stored_records, whole_slots};
 use super::Fault;
 use crate::calls::Words;
-use crate::layout::SLOT;
+use crate::layout::{slot_words, SLOT};
 use crate::program::{Program, Second};
 
 /// The edit with this fault.
@@ -96,6 +94,9 @@ fn with_spoiled_output(
     let old = slot_words(before, edit.slot).unwrap_or(&[]);
     let Some(slot) = slot_words_mut(sheet, edit.slot) else { return answer };
     match (fault, answer.number) {
+        (Fault::Redone(misreading), number) => {
+            EditAnswer { redone: misreading.report(old, slot, &edit, number == 0), ..answer }
+        }
         (Fault::RefuseAll, 0) => {
             slot.copy_from_slice(old);
             another(10, 0)
@@ -106,7 +107,7 @@ fn with_spoiled_output(
         }
         (Fault::OldLineCount, 0) => {
             slot[4] = old[4];
-            another(0, old[4])
+            EditAnswer { place: old[4], ..answer }
         }
         (Fault::RefusalWrites, 10) => {
             slot[5] = 1;
@@ -123,7 +124,7 @@ fn with_spoiled_output(
 
 /// Another answer than the right one.
 fn another(number: u32, place: u32) -> EditAnswer {
-    EditAnswer { number, place }
+    EditAnswer { number, place, redone: 0 }
 }
 
 fn spoiled_refusal(fault: Fault, edit: Edit<'_>, old: &[u32], answer: EditAnswer) -> EditAnswer {

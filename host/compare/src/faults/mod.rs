@@ -5,15 +5,17 @@
 
 mod edits;
 mod gaps;
+mod redone;
 mod slots;
 
 use std::ops::Range;
 
 use second::{Answer, Edit, EditAnswer, RubyPlace};
 
-use crate::layout::{LINES, SLOT};
+use crate::layout::{slot_words, LINES, SLOT};
 use crate::program::{Program, Second, SECOND};
-use slots::{keep_all_but_heads, keep_texts, slot_words, whole_slots};
+pub use redone::{Misreading, MISREADINGS};
+use slots::{keep_all_but_heads, keep_texts, whole_slots};
 
 /// A wrong program.
 #[derive(Debug, Clone, Copy, PartialEq, Eq)]
@@ -124,9 +126,11 @@ pub enum Fault {
     /// A line's gaps are added up in one word, whose fields have so many bits: least widths, shrink stages 1 and 2,
     /// weights. What a field cannot hold is carried into the next.
     Fields([u32; 4]),
+    /// An edit misreports how many lines it composed anew.
+    Redone(Misreading),
 }
 
-/// Every fault but those of digits, classes and gaps.
+/// Every fault but those of digits, classes, gaps and redone lines.
 pub const SINGLE: [Fault; 40] = [
     Fault::NaturalBreaks,
     Fault::DamageBeforeCaller,

@@ -3,16 +3,12 @@
 use super::gaps::set_again;
 use super::Fault;
 use crate::calls::Words;
-use crate::layout::{LINES, PLACES, RECORDS, SLOT};
+use crate::layout::{record_words, slot_words, LINES, PLACES, RECORDS, SLOT};
 
 /// The sheet without the words past its last whole slot.
 pub fn whole_slots(sheet: &mut [u32]) -> &mut [u32] {
     let whole = sheet.len() - sheet.len() % SLOT;
     &mut sheet[..whole]
-}
-
-pub fn slot_words(sheet: &[u32], slot: u32) -> Option<&[u32]> {
-    sheet.chunks_exact(SLOT).nth(slot as usize)
 }
 
 pub fn slot_words_mut(sheet: &mut [u32], slot: u32) -> Option<&mut [u32]> {
@@ -21,9 +17,8 @@ pub fn slot_words_mut(sheet: &mut [u32], slot: u32) -> Option<&mut [u32]> {
 
 /// The records that a slot says it holds.
 pub fn stored_records(sheet: &[u32], slot: u32) -> Vec<Words> {
-    let Some(words) = slot_words(sheet, slot) else { return Vec::new() };
-    let (records, _) = words[RECORDS..PLACES].as_chunks::<6>();
-    records.iter().copied().take(words[3] as usize).collect()
+    let (records, _) = slot_words(sheet, slot).map_or(&[][..], record_words).as_chunks::<6>();
+    records.to_vec()
 }
 
 pub fn store_records(sheet: &mut [u32], slot: u32, records: &[Words]) {

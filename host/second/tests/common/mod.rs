@@ -54,13 +54,14 @@ pub fn edit(sheet: &mut [u32], edit: Edit) -> (u32, u32) {
     (answer.number, answer.place)
 }
 
-/// The answer of an edit that is refused, which changes no word.
+/// The number and place of an edit that is refused, which changes no word and redoes no line.
 pub fn refused(sheet: &mut [u32], edit: Edit) -> (u32, u32) {
     let before = sheet.to_vec();
-    let answer = self::edit(sheet, edit);
-    assert_ne!(answer.0, 0);
+    let answer = second::edit(sheet, edit);
+    assert_ne!(answer.number, 0);
+    assert_eq!(answer.redone, 0);
     assert_eq!(sheet, before);
-    answer
+    (answer.number, answer.place)
 }
 
 /// The answer of inserting records into an empty slot.
