@@ -13,8 +13,9 @@ use records::first_words;
 use records::put_records;
 use sheet::Clinic;
 use sheet::SlotNumber;
-use show::print_answer;
+use show::print_edit;
 use show::print_ruby;
+use show::print_set_up;
 use show::print_text;
 use show::say;
 use texts::CARE_NOTE;
@@ -31,8 +32,7 @@ fn set_up_clinics(sheet: &mut [u32]) {
     let clinics = [7, 8, 9];
     let measures = [540, 560, 400];
     let indents = [80, 80, 0];
-    let answer = sheet::set_up(sheet, &clinics, &measures, &indents);
-    print_answer(answer.number, answer.place, b" slots");
+    print_set_up(sheet::set_up(sheet, &clinics, &measures, &indents));
 }
 
 // Shows a text, and what the sheet answers when it comes in at a place for the records that are deleted there.
@@ -49,8 +49,7 @@ fn write(
     let mut words = [0u32; 384];
     let n = put_records(text, ruby, &mut words);
     let inserted = first_words(&words, n);
-    let answer = sheet::edit(sheet, caller, slot, place, deleted, inserted);
-    print_answer(answer.number, answer.place, b" lines");
+    print_edit(sheet::edit(sheet, caller, slot, place, deleted, inserted));
 }
 
 // Line 0 shrinks the space before its bracket. Line 1 would have room for 10, but not for 10%, and line 2 for 500, but
@@ -82,8 +81,7 @@ fn try_refused_edits(sheet: &mut [u32]) {
     write(sheet, Clinic(8), SlotNumber(0), 17, 3, &NEW_DOSE, NO_RUBY);
     say(b"Clinic 7 inserts a comma that is as wide as a kanji, before record 27 of slot 0.\n");
     let comma = [0x3001, 7, SIZE, SIZE, 0, 0];
-    let answer = sheet::edit(sheet, Clinic(7), SlotNumber(0), 27, 0, &comma);
-    print_answer(answer.number, answer.place, b" lines");
+    print_edit(sheet::edit(sheet, Clinic(7), SlotNumber(0), 27, 0, &comma));
     say(b"Clinic 9 writes a word that is wider than its measure into slot 2.\n");
     write(sheet, Clinic(9), SlotNumber(2), 0, 0, &LONG_WORD, NO_RUBY);
 }
@@ -96,6 +94,7 @@ fn try_reads(sheet: &[u32]) {
     print_slot(sheet, Clinic(9), SlotNumber(2));
 }
 
+// The dose stands in line 3, and is as wide as before: lines 2 and 3 are composed anew, and line 4 stands again.
 fn change_dose(sheet: &mut [u32]) {
     say(b"\nClinic 7 changes the dose in slot 0: records 17 to 19 go out, and three come in.\n");
     write(sheet, Clinic(7), SlotNumber(0), 17, 3, &NEW_DOSE, NO_RUBY);

@@ -2,6 +2,8 @@
 use crate::texts::code_at;
 use crate::utf8::encode;
 use libc::STDOUT_FILENO;
+use sheet::Answer;
+use sheet::EditAnswer;
 use sheet::RubyPlace;
 
 pub(crate) fn say(text: &[u8]) {
@@ -69,18 +71,35 @@ pub(crate) fn print_refusal(number: u32) {
     say(b".");
 }
 
-// What set-up or edit answered: how many slots or lines there are, or a refusal and its place.
-pub(crate) fn print_answer(number: u32, place: u32, counted: &[u8]) {
-    if number == 0 {
-        say(b"  accepted: ");
-        print_number(place);
-        say(counted);
-    } else {
-        print_refusal(number);
-        say(b" Place ");
-        print_number(place);
-    }
+fn print_refused_at(number: u32, place: u32) {
+    print_refusal(number);
+    say(b" Place ");
+    print_number(place);
     say(b".\n");
+}
+
+// What set-up answered: how many slots there are, or a refusal and its place.
+pub(crate) fn print_set_up(answer: Answer) {
+    if answer.number == 0 {
+        say(b"  accepted: ");
+        print_number(answer.place);
+        say(b" slots.\n");
+    } else {
+        print_refused_at(answer.number, answer.place);
+    }
+}
+
+// What an edit answered: how many lines there are and how many of them it composed anew, or a refusal and its place.
+pub(crate) fn print_edit(answer: EditAnswer) {
+    if answer.number == 0 {
+        say(b"  accepted: ");
+        print_number(answer.place);
+        say(b" lines, ");
+        print_number(answer.redone);
+        say(b" of them composed anew.\n");
+    } else {
+        print_refused_at(answer.number, answer.place);
+    }
 }
 
 // Where ruby place puts a ruby character, from the start of its group.

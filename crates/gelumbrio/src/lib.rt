@@ -32,7 +32,7 @@ pub extern "C" fn gelumbrio_edit(
     deleted: u32,
     inserted: &[u32],
 ) -> EditAnswer
-    ensures { λ r. ⌜ (editSays (r .number) (r .place), now (sheet .exit)) ≡
+    ensures { λ r. ⌜ (editSays (r .number) (r .place) (r .redone), now (sheet .exit)) ≡
         edit (now (sheet .entry)) (caller .0) (slot .0) place deleted (now (inserted .entry)) ⌝ }
 {
     sheet::edit(sheet, caller, slot, place, deleted, inserted)
