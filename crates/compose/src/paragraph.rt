@@ -86,7 +86,8 @@ fn judge_and_break(
     if a.number != 0 {
         return a;
     }
-    says(0, break_lines(ws, runs, m, x, starts))
+    let count = break_lines(ws, runs, m, x, starts);
+    says(0, count)
 }
 
 // Whether and how a paragraph breaks into lines: answers 8, 9 and 10; or 0 and the line count, and then the first

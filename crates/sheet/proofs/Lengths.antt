@@ -88,7 +88,3 @@ module _ (n : ℕ) where
         | inl o ↦ (o, rw o at e)
         | inr o ↦ absurd (z (rw o at e))
       ]
-
-  -- where a slot starts
-  pub starts-within : (k : ℕ) → lengthOk n ≡ true → k < n / 2824 → 2824 * k < n
-  starts-within k e h = omega (arith, whole n e .exact)

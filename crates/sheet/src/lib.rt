@@ -38,20 +38,20 @@ fn slot_count(len: usize) -> usize
 fn called(sheet: &[u32], caller: Clinic, slot: SlotNumber) -> Answer
     ensures { λ r. ⌜ says (r .number) (r .place) ≡ calledOf (now (sheet .entry)) (caller .0) (slot .0) ⌝ }
 {
-    let p = slot_count(sheet.len());
-    if p == 0 {
+    if slot_count(sheet.len()) == 0 {
         return Answer {
             number: 1,
             place: 0,
         };
     }
-    if p <= slot.0 as usize {
+    // the sheet has whole slots, so one that starts within it is there
+    let first = 2824 * slot.0 as usize;
+    if sheet.len() <= first {
         return Answer {
             number: 2,
             place: 0,
         };
     }
-    let first = 2824 * slot.0 as usize;
     if (caller.0 == 0) | (caller.0 != sheet[first]) {
         return Answer {
             number: 3,

@@ -8,7 +8,7 @@ use borrow.Author.Needs.{needs}
 use denote.Ref.{now}
 use Rattle.rules.specs.Sheet.{lengthOk}
 use Rattle.sheet.proofs.Entry.{clinic-at}
-use Rattle.sheet.proofs.Lengths.{without-slots, with-slots, starts-within}
+use Rattle.sheet.proofs.Lengths.{without-slots, with-slots, whole}
 use Rattle.sheet.proofs.Entry.{called-0, called-1, called-2, called-3}
 use Rattle.sheet.proofs.called.Statement.{statement}
 use Rattle.sheet.proofs.called.Tie as tie
@@ -17,15 +17,16 @@ abbrev size : tie.Start → ℕ
 size s = length (now (s .args .sheet))
 
 -- where answer 1 is not due
-counted : (c : tie.Else1) → let n = size (c .before .before .before) in
-    (lengthOk n ≡ true) × (c .before .slot-count .result ≡ n / 2824)
-counted c = with-slots (size (c .before .before .before)) (c .before .slot-count .ensures) (c .if1 .left)
+counted : (c : tie.Else1) → lengthOk (size (c .before .before .before)) ≡ true
+counted c = with-slots (size (c .before .before .before)) (c .before .slot-count .ensures) (c .if1 .left) .0
 
 -- nor answer 2
 slot-within : (c : tie.Else2) →
     let s = c .before .before .before .before .before in
     s .args .slot .0 < size s / 2824
-slot-within c = omega (arith, counted (c .before .before) .1, c .if2 .left)
+slot-within c =
+    let d = c .before .before in
+    omega (arith, whole (size (d .before .before .before)) (counted d) .exact, c .if2 .left)
 
 returns : tie.Need-returns
 returns c =
@@ -33,24 +34,17 @@ returns c =
     sym (called-1 _ _ _ (without-slots n (c .before .slot-count .ensures) (c .if1 .taken)))
 
 returns-2 : tie.Need-returns-2
-returns-2 c =
-    let k = counted (c .before .before) in
-    sym (called-2 _ _ _ (k .0) (omega (arith, k .1, c .if2 .taken)))
-
-shared-slice-read-if3 : tie.Need-shared-slice-read-if3
-shared-slice-read-if3 c =
-    let d = c .before .before .before in
-    starts-within (size (d .before .before .before .before .before)) _ (counted (d .before .before) .0) (slot-within d)
+returns-2 c = sym (called-2 _ _ _ (counted (c .before .before)) (omega (arith, c .if2 .taken)))
 
 returns-3 : tie.Need-returns-3
 returns-3 c =
-    let d = c .before .before .before .before .before in
-    sym (called-3 _ _ _ (counted (d .before .before) .0) (slot-within d) (rw clinic-at (c .if3 .taken)))
+    let d = c .before .before .before .before in
+    sym (called-3 _ _ _ (counted (d .before .before)) (slot-within d) (rw clinic-at (c .if3 .taken)))
 
 returns-4 : tie.Need-returns-4
 returns-4 c =
-    let d = c .before .before .before .before .before in
-    sym (called-0 _ _ _ (counted (d .before .before) .0) (slot-within d) (rw clinic-at (c .if3 .left)))
+    let d = c .before .before .before .before in
+    sym (called-0 _ _ _ (counted (d .before .before)) (slot-within d) (rw clinic-at (c .if3 .left)))
 
 pub called-spec : {M : Type 1} → statement M
 called-spec =
@@ -59,10 +53,9 @@ called-spec =
     (λ c κs. search needs)
     returns
     (λ c. search needs)
+    (λ c. search needs)
     returns-2
     (λ c. search needs)
     (λ c. search needs)
-    (λ c. search needs)
-    shared-slice-read-if3
     returns-3
     returns-4)
