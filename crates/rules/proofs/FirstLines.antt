@@ -6,7 +6,7 @@ use native.Mathlib.Nat.{zero-add}
 use mathlib.Core.Bool.{Bool, true, false, _&&_}
 use mathlib.Core.List.{List, [], _∷_}
 use mathlib.Core.Logic.{inl, inr, _↔_}
-use lib.Dec.{eqb}
+use lib.Dec.{leb, eqb}
 use lib.ListN.{length, drop}
 use borrow.Author.Tests.{leb-true, le-leb, eqb-true, eq-eqb}
 use Rattle.rules.specs.Basics.{isIn}
@@ -139,7 +139,8 @@ four false b c d e = absurd (true-false (sym e))
 module _ (place deleted inserted : ℕ) (old : List Line) (j i : ℕ) where
   resumes-means : resumes place deleted inserted old j i ≡ true → Resumes place deleted inserted old j i
   resumes-means h =
-      let t = four _ _ _ _ h in
+      let t : (leb (firstRedone place old) j ≡ true) × (leb 1 j ≡ true) × (leb (place + inserted) i ≡ true)
+      × (isIn (i - inserted + deleted) (drop 1 (starts 0 old)) ≡ true) = four _ _ _ _ h in
       let s = later-start (i - inserted + deleted) old (t .3) in
       let p = leb-true (place + inserted) i (t .2) in
       record {

@@ -45,7 +45,7 @@ pub record Row : Type 0 where
 abbrev pub row : ℕ → List Rec → List ℕ → Row
 row m t w = record { measure = m; text = t; want = w }
 
-same : List ℕ → List ℕ → Bool
+pub same : List ℕ → List ℕ → Bool
 same [] [] = true
 same [] (b ∷ bs) = false
 same (a ∷ l) [] = false
