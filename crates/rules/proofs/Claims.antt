@@ -20,7 +20,7 @@ use Rattle.rules.specs.Refusals.{judged, splice}
 use Rattle.rules.specs.Meanings.{All, lastOf, Maximal, Boundary, OneUnit, RubyPlaced, Choice, Fits, Longest}
 use Rattle.rules.specs.Meanings.{FirstWide, GapAt, WithinLimits, FirstStageFull, Apart}
 use Rattle.rules.specs.Percent.{digitAndPostfix}
-use Rattle.rules.specs.Stable.{Holds, FirstThat, Resumes, usedBy, Stable}
+use Rattle.rules.specs.Stable.{Holds, FirstThat, Resumes, usedBy, StableEdit}
 use Rattle.rules.specs.Spacing.{named, gapSet, spacingTable, cellIn}
 use Rattle.rules.specs.Packed.{packed, unpacked, Packs, AtMost}
 use Rattle.rules.proofs.Facts.{some-none}
@@ -209,7 +209,8 @@ r-test place deleted inserted old j i = resumes-exactly place deleted inserted o
 pub lines-stable : (m x : ℕ) (rs : List Rec) (place deleted : ℕ) (ins : List Rec) → place + deleted ≤ length rs →
     let old = compose m x (units rs) in
     let new = compose m x (units (splice rs place deleted ins)) in
-    Stable place deleted (length ins) old new (usedBy old) (usedBy new) (report place deleted (length ins) old new)
+    StableEdit place deleted (length ins) old new (usedBy old) (usedBy new)
+    (report place deleted (length ins) old new)
 lines-stable m x rs place deleted ins fits = edit-stable m x rs place deleted ins fits
 
 -- Composed by hand -------------------------------------------------------------------------------------------------

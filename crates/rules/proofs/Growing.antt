@@ -1,6 +1,6 @@
 -- What grows where a paragraph goes on otherwise: a unit may get further records, a run further units. Of widths, units
--- and forbidden breaks Req 03 needs two facts: `grown-wider`, that a line which grows at its end gets no narrower, and
--- `bound-alike`, that a unit's first record tells where a break before it is forbidden. Assumes nothing.
+-- and forbidden breaks request 03 needs two facts: `grown-wider`, that a line which grows at its end gets no narrower,
+-- and `bound-alike`, that a unit's first record tells where a break before it is forbidden. Assumes nothing.
 use mathlib.Core.Path.{_≡_, ap, _∙_}
 use Prim.Native.Nat.{ℕ, _+_, _≤_}
 use native.Mathlib.Omega.{arith}

@@ -12,7 +12,7 @@ use Rattle.rules.specs.Groups.{units}
 use Rattle.rules.specs.Adjustment.{Line, compose}
 use Rattle.rules.specs.Refusals.{splice}
 use Rattle.rules.specs.Redone.{firstRedone, resumed, report}
-use Rattle.rules.specs.Stable.{start, StableAround, Resumes, usedBy, Stable}
+use Rattle.rules.specs.Stable.{start, StableAround, Resumes, usedBy, StableEdit}
 use Rattle.rules.proofs.Facts.{ordered}
 use Rattle.rules.proofs.Splices.{splice-after}
 use Rattle.rules.proofs.KeptLines.{lines-from, lines-kept}
@@ -89,7 +89,8 @@ module _ (m x : ℕ) (rs : List Rec) (place deleted : ℕ) (ins : List Rec) (fit
       (lines-again m x rs place deleted ins fits)
 
   pub edit-stable :
-      Stable place deleted (length ins) old new (usedBy old) (usedBy new) (report place deleted (length ins) old new)
+      StableEdit place deleted (length ins) old new (usedBy old) (usedBy new)
+      (report place deleted (length ins) old new)
   unfolding report
   edit-stable =
       let s = stable-around in

@@ -100,11 +100,15 @@ pub record WordsStable (f r again deleted inserted : ℕ) (old new : List Line) 
 
 -- The promise --------------------------------------------------------------------------------------------------------
 
--- of an edit that reports n lines, whose lines were `old` with the used words w, and are `new` with v. "The report is
--- r−f and never exceeds the new line count."
-pub record Stable (place deleted inserted : ℕ) (old new : List Line) (w v : Used) (n : ℕ) : Type 0 where
-  pub lines : StableAround (firstRedone place old) (resumed place deleted inserted old new) deleted inserted old new
-  pub words : WordsStable (firstRedone place old) (resumed place deleted inserted old new) (lines .again) deleted inserted
-      old new w v
-  pub between : firstRedone place old + n ≡ resumed place deleted inserted old new
+-- lines were `old` with the used words w, and are `new` with v; n is reported. "The report is r−f and never exceeds the
+-- new line count."
+pub record Stable (f r deleted inserted : ℕ) (old new : List Line) (w v : Used) (n : ℕ) : Type 0 where
+  pub lines : StableAround f r deleted inserted old new
+  pub words : WordsStable f r (lines .again) deleted inserted old new w v
+  pub between : f + n ≡ r
   pub few : n ≤ length new
+
+-- of an edit, by its own f and r
+abbrev pub StableEdit : ℕ → ℕ → ℕ → List Line → List Line → Used → Used → ℕ → Type 0
+StableEdit place deleted inserted old new w v n =
+    Stable (firstRedone place old) (resumed place deleted inserted old new) deleted inserted old new w v n

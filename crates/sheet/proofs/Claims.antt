@@ -15,7 +15,7 @@ use Rattle.rules.specs.Breaks.{runs, breaking}
 use Rattle.rules.specs.Adjustment.{Line, compose}
 use Rattle.rules.specs.Sheet.{lineWords, lineCountOf, measureOf, indentOf, recordsOf, slotAt}
 use Rattle.rules.specs.Refusals.{Outcome, edited}
-use Rattle.rules.specs.Stable.{Used, usedBy, usedOf, Stable}
+use Rattle.rules.specs.Stable.{Used, usedBy, usedOf, StableEdit}
 use Rattle.rules.specs.Meanings.{All, Choice, Fits, Longest, FirstWide, RubyPlaced}
 use Rattle.rules.proofs.Claims.{lines-chosen}
 use Rattle.sheet.specs.Book.{SlotCall, reads, Call, call-on, Reply, read-reply, numberOf, step}
@@ -106,7 +106,7 @@ module _ (u : EditRun) where
   new = compose m x us
 
   abbrev StableIn : Used → Used → Type 0
-  StableIn w v = Stable (place u) (deleted u) (length (inserted u) / 6) old new w v (answer u .redone)
+  StableIn w v = StableEdit (place u) (deleted u) (length (inserted u) / 6) old new w v (answer u .redone)
 
   -- of the lines and their words by the rules
   pub edit-stable : answer u .number ≡ 0 → StableIn (usedBy old) (usedBy new)

@@ -13,7 +13,7 @@ use Rattle.rules.specs.Groups.{TextUnit, units}
 use Rattle.rules.specs.Breaks.{runs, noBreaking}
 use Rattle.rules.specs.Adjustment.{Line, compose}
 use Rattle.rules.specs.Sheet.{lineWords, measureOf, indentOf, recordsOf, slotAt}
-use Rattle.rules.specs.Stable.{Used, usedBy, usedOf, Stable}
+use Rattle.rules.specs.Stable.{Used, usedBy, usedOf, StableEdit}
 use Rattle.rules.specs.Refusals.{EditAnswer, Outcome, splice, edited, edit, readNumber, readWords}
 use Rattle.rules.specs.Meanings.{All, Choice, Fits, FirstWide, RubyPlaced}
 use Rattle.rules.proofs.RubyPlaces.{rubies-placed}
@@ -90,7 +90,7 @@ module _ (u : EditRun) where
   new = compose m x us
 
   abbrev pub StableIn : Used → Used → Type 0
-  StableIn w v = Stable (place u) (deleted u) (length (inserted u) / 6) old new w v (answer u .redone)
+  StableIn w v = StableEdit (place u) (deleted u) (length (inserted u) / 6) old new w v (answer u .redone)
 
   -- what the edit composes anew, and what stays
   pub run-stable : answer u .number ≡ 0 → StableIn (usedBy old) (usedBy new)
@@ -98,7 +98,7 @@ module _ (u : EditRun) where
   run-stable =
       by-contract
       (λ o. o .0 .number ≡ 0 →
-      Stable (place u) (deleted u) (length (inserted u) / 6) old new (usedBy old) (usedBy new) (o .0 .redone))
+      StableEdit (place u) (deleted u) (length (inserted u) / 6) old new (usedBy old) (usedBy new) (o .0 .redone))
       (accepted-stable ws (caller u .0) (slot u .0) (place u) (deleted u) (inserted u))
 
   pub run-used : answer u .number ≡ 0 → usedOf (slotAfter u) ≡ usedBy new

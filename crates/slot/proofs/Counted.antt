@@ -1,19 +1,21 @@
 -- An edit's answer, once its new records are judged: the report comes from the old lines' first records and the slot's
 -- words. Assumes nothing.
 use mathlib.Core.Path.{_≡_, sym, ap, _∙_}
-use Prim.Native.Nat.{ℕ, _+_, _/_, _≤_}
+use Prim.Native.Nat.{ℕ, _+_, _*_, _/_, _≤_, _<_}
 use native.Mathlib.Omega.{arith}
 use mathlib.Core.List.{List}
 use mathlib.Core.Logic.{inl, inr}
 use lib.Dec.{eqb}
-use lib.ListN.{length, drop}
+use lib.ListN.{length, drop, getD}
 use borrow.Author.Tests.{eqb-true, eqb-false}
 use Rattle.rules.specs.Records.{Rec, records}
 use Rattle.rules.specs.Groups.{units}
 use Rattle.rules.specs.Adjustment.{Line, compose}
 use Rattle.rules.specs.Sheet.{slotWords, measureOf, indentOf, settingOf, countOf, recordsOf}
 use Rattle.rules.specs.Redone.{report}
-use Rattle.rules.specs.Refusals.{Answer, says, EditAnswer, editSays, reporting, Outcome, edited, linesRedone, editRedone}
+use Rattle.rules.specs.Stable.{start}
+use Rattle.rules.specs.Refusals.{Answer, says, EditAnswer, editSays, reporting, Outcome, linesRedone, edited}
+use Rattle.rules.specs.Refusals.{editRedone}
 use Rattle.rules.proofs.Facts.{tested}
 use Rattle.rules.proofs.Lengths.{composed-few}
 use Rattle.rules.proofs.Words.{length-records}
@@ -46,11 +48,14 @@ module _ (s : List ℕ) (place deleted : ℕ) (ins : List ℕ) (few : countOf s 
       }
 
   reports : (starts words : List ℕ) (n count redone : ℕ) → Starts starts n (linesOf s) → count ≡ length newLines →
-      words ≡ slotWords (settingOf s) new → Reported starts n (drop 2056 words) count place deleted (length ins / 6) redone →
+      words ≡ slotWords (settingOf s) new →
+      Reported starts n (drop 2056 words) count place deleted (length ins / 6) redone →
       redone ≡ editRedone s place deleted ins
   unfolding linesRedone
   reports starts words n count redone o c w r =
-      r (linesOf s) newLines o record { count = c; first = λ j h. rw w (slot-firsts (settingOf s) new new-few j (omega arith)) }
+      let first : (j : ℕ) → j < count → getD (drop 2056 words) (3 * j) 0 ≡ start j newLines
+      = λ j h. rw w (slot-firsts (settingOf s) new new-few j (omega arith)) in
+      r (linesOf s) newLines o record { count = c; first = first }
       ∙ ap (λ k. report place deleted k (linesOf s) newLines) (sym (length-records ins 0 (length ins / 6)))
 
   pub counted-answer : (starts words : List ℕ) (n number count answer lines redone : ℕ) → Starts starts n (linesOf s) →
@@ -64,6 +69,7 @@ module _ (s : List ℕ) (place deleted : ℕ) (ins : List ℕ) (few : countOf s 
         | inl t ↦
             let z = eqb-true number 0 t in
             let w = accepted-words s new number count words z e in
-            rw (← e, t, c .same-number, c .same-place, reports starts words n count redone o (w .0) (w .1) (c .accepted z))
+            let d = reports starts words n count redone o (w .0) (w .1) (c .accepted z) in
+            rw (← e, t, c .same-number, c .same-place, d)
         | inr t ↦ rw (← e, t, c .same-number, c .same-place, c .refused (eqb-false number 0 t))
       ]

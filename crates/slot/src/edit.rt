@@ -41,8 +41,8 @@ fn damaged() -> Answer
     }
 }
 
-// Answer 4, or 0 and how many lines the slot's records have: then the first record of each stands in `starts`. A
-// function of its own, so that a damaged slot is turned away before the frame of the new record list is made.
+// Answer 4, or 0 and how many lines the rules give the slot's records: then the first record of each stands in
+// `starts`. The stored line words are not looked at, since on a sheet of any words they may be anything.
 fn stored_lines(words: &[u32], starts: &mut [u32; 256]) -> Answer
     requires { ⌜ length (now words) ≡ 2824 ⌝ }
     ensures { λ r. ⌜ StoredLines (now (words .entry)) (now (starts .exit)) (r .number) (r .place) ⌝ }

@@ -30,6 +30,19 @@ past-5 c = past-4 (c .before .before .before)
 abbrev spliced : tie.After-splice → tie.Start
 spliced c = past-5 (c .before .before .before .before .before .before)
 
+-- where answers 7, 5 and 4 were passed, from the splice, and the splice from where the records are replaced
+abbrev seven : tie.After-splice → tie.Else5
+seven c = c .before .before .before .before
+
+abbrev five : tie.After-splice → tie.Else3
+five c = seven c .before .before
+
+abbrev four : tie.After-splice → tie.Else1
+four c = five c .before .before .before
+
+abbrev listed : tie.After-replace → tie.After-splice
+listed c = c .before .before .before .before
+
 -- past answer 4 the slot is sound
 is-sound-at : (c : tie.Else1) → sound (now (past-4 c .args .words)) ≡ true
 is-sound-at c = stored-0 _ (c .before .before .stored-lines .ensures .answer) (c .if1 .left)
@@ -45,13 +58,9 @@ within-at c = omega (arith, c .if3 .left, c .before .if2 .left)
 new-list-at : (c : tie.After-splice) →
     let s = spliced c in
     let a = s .args in
-    let seven = c .before .before .before .before in
-    let five = seven .before .before in
-    NewList (now (a .words)) (a .place) (a .deleted) (now (a .inserted)) (s .pre)
-    (few-at (five .before .before .before))
-    (within-at five)
-    (seven .before .if4 .left)
-    (seven .if5 .left)
+    NewList (now (a .words)) (a .place) (a .deleted) (now (a .inserted)) (s .pre) (few-at (four c)) (within-at (five c))
+    (seven c .before .if4 .left)
+    (seven c .if5 .left)
     (c .splice .last .0)
 unfolding zeros
 new-list-at c = new-list _ _ _ _ _ _ _ _ _ _ (c .splice .ensures)
@@ -116,14 +125,13 @@ add-splice c =
     let five = c .before .before .before .before .before in
     omega (arith, few-at (five .before .before .before), within-at five)
 
--- the list, the function's entry, and the slot's soundness, from where the list is made
+-- it may replace the slot's own
 replaceable-at : (c : tie.After-splice) →
     let a = spliced c .args in
     let w = now (a .words) in
     Replaceable w (c .splice .last .0) ((countOf w - a .deleted) * 6 + length (now (a .inserted)))
 replaceable-at c =
-    let four = c .before .before .before .before .before .before .before .before .before in
-    new-list-at c .replaceable (sound-limits (now (spliced c .args .words)) (is-sound-at four))
+    new-list-at c .replaceable (sound-limits (now (spliced c .args .words)) (is-sound-at (four c)))
 
 replace-requires : tie.Need-replace-requires
 replace-requires c κs = replaceable-at (c .before .before .before)
@@ -135,41 +143,35 @@ starts-at : (c : tie.Else1) →
 starts-at c = c .before .before .stored-lines .ensures .lines (c .if1 .left)
 
 replaced-at : (c : tie.After-replace) →
-    let a = spliced (c .before .before .before .before) .args in
+    let a = spliced (listed c) .args in
     _≡_ {A = Outcome Answer} (says (c .replace .result .number) (c .replace .result .place), c .replace .last .0)
     (replaced (now (a .words)) (edited (now (a .words)) (a .place) (a .deleted) (now (a .inserted))))
 replaced-at c =
-    let s = c .before .before .before .before in
-    c .replace .ensures ∙ ap (replaced (now (spliced s .args .words))) (new-list-at s .records)
+    c .replace .ensures ∙ ap (replaced (now (spliced (listed c) .args .words))) (new-list-at (listed c) .records)
 
 counted-requires : tie.Need-counted-requires
 counted-requires c κs =
     let r = c .before .before .before .before in
-    let s = r .before .before .before .before in
-    let seven = s .before .before .before .before in
-    let five = seven .before .before in
-    let four = five .before .before .before in
-    let a = spliced s .args in (
-      ap (λ (o : Outcome Answer). length (o .1)) (r .replace .ensures)
-          ∙ replaced-length (now (a .words)) _ _ (replaceable-at s),
-      countable (now (a .words)) (a .place) (a .deleted) (now (a .inserted)) (few-at four) (new-list-at s .new-few) _ _ _ _
-          (within-at five) (omega (arith, seven .if5 .left)) (starts-at four .count) (replaced-at r),
+    let s = listed r in
+    let a = spliced s .args in
+    let w = now (a .words) in (
+      ap (λ (o : Outcome Answer). length (o .1)) (r .replace .ensures) ∙ replaced-length w _ _ (replaceable-at s),
+      countable w (a .place) (a .deleted) (now (a .inserted)) (few-at (four s)) (new-list-at s .new-few) _ _ _ _
+          (within-at (five s)) (omega (arith, seven s .if5 .left)) (starts-at (four s) .count) (replaced-at r),
     )
 
 returns-6 : tie.Need-returns-6
 returns-6 c =
     let r = c .before .before .before .before .before in
-    let s = r .before .before .before .before in
-    let seven = s .before .before .before .before in
-    let five = seven .before .before in
-    let four = five .before .before .before in
+    let s = listed r in
     let a = spliced s .args in
-    counted-answer (now (a .words)) (a .place) (a .deleted) (now (a .inserted)) (few-at four) (new-list-at s .new-few) _ _ _ _
-    _ _ _ _ (starts-at four) (replaced-at r) (c .counted .ensures)
+    let w = now (a .words) in
+    counted-answer w (a .place) (a .deleted) (now (a .inserted)) (few-at (four s)) (new-list-at s .new-few) _ _ _ _ _ _ _
+    _ (starts-at (four s)) (replaced-at r) (c .counted .ensures)
     ∙ sym
-    (replaces (now (a .words)) (a .place) (a .deleted) (now (a .inserted)) (is-sound-at four) (within-at five)
-    (seven .before .if4 .left)
-    (omega (arith, seven .if5 .left, seven .before .if4 .left)))
+    (replaces w (a .place) (a .deleted) (now (a .inserted)) (is-sound-at (four s)) (within-at (five s))
+    (seven s .before .if4 .left)
+    (omega (arith, seven s .if5 .left, seven s .before .if4 .left)))
 
 pub edit-slot-spec : {M : Type 1} → statement M
 edit-slot-spec =

@@ -51,7 +51,9 @@ loop-again c =
     rw (w .5)
     (search-next _ _ _ _ _ _ _ i h (w .0 .taken) (w .1 .ensures) (λ o. w .3 .ensures .no (w .4 .left))))
     (⊎-elim
-    (λ w. rw (w .3) (search-next _ _ _ _ _ _ _ i h (w .0 .taken) (w .1 .ensures) (λ o. absurd (omega (arith, w .2 .left)))))
+    (λ w.
+    rw (w .3)
+    (search-next _ _ _ _ _ _ _ i h (w .0 .taken) (w .1 .ensures) (λ o. absurd (omega (arith, w .2 .left)))))
     (λ w. rw (w .1) (search-early _ _ _ _ _ _ _ i h (w .0 .left))))
     (c .if1 .came)
 
