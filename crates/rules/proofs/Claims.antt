@@ -38,7 +38,8 @@ use Rattle.rules.proofs.Cells.{table-gap}
 use Rattle.rules.proofs.Packed.{packed-plus, unpacked-packed}
 use Rattle.rules.proofs.KeptLines.{all-held}
 use Rattle.rules.proofs.EditLine.{edit-line}
-use Rattle.rules.proofs.FirstLines.{resumed-first, resumes-exactly}
+use Rattle.rules.proofs.FirstLines.{resumed-first}
+use Rattle.rules.proofs.Resuming.{resumes-exactly}
 use Rattle.rules.proofs.RedoneLines.{edit-stable}
 use Rattle.rules.proofs.RedoneCases.{edit-rows, edits-right, edit-cases-hold}
 use Rattle.rules.proofs.Ends.{ends-within, wide-ends, flush-ends, short-ends, final-ends}

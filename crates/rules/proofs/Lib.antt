@@ -20,6 +20,7 @@ pub mod Splices
 pub mod KeptLines
 pub mod EditLine
 pub mod FirstLines
+pub mod Resuming
 pub mod RedoneLines
 pub mod MovedWords
 pub mod RedoneCases

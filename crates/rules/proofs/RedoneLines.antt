@@ -17,7 +17,8 @@ use Rattle.rules.proofs.Facts.{ordered}
 use Rattle.rules.proofs.Splices.{splice-after}
 use Rattle.rules.proofs.KeptLines.{lines-from, lines-kept}
 use Rattle.rules.proofs.EditLine.{before-place, f-within}
-use Rattle.rules.proofs.FirstLines.{resumed-first, resumes-exactly}
+use Rattle.rules.proofs.FirstLines.{resumed-first}
+use Rattle.rules.proofs.Resuming.{resumes-exactly}
 use Rattle.rules.proofs.MovedWords.{composed-words-stable}
 
 -- (a) new lines before f equal the old ones

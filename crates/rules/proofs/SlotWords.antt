@@ -13,7 +13,7 @@ use Rattle.rules.specs.Breaks.{runs, breaking}
 use Rattle.rules.specs.Adjustment.{Line, linesOf, compose}
 use Rattle.rules.specs.Sheet.{Setting, placeWords, lineWords, head, slotWords, fresh}
 use Rattle.rules.specs.Sheet.{measureOf, indentOf, settingOf, countOf, lineCountOf, recordsOf}
-use Rattle.rules.specs.Stable.{start, Used, usedBy, usedOf}
+use Rattle.rules.specs.Stable.{start, usedBy, usedOf, AsRuled}
 use Rattle.rules.proofs.Facts.{cons-path}
 use Rattle.rules.proofs.Zeros.{length-zeros, zeros-append}
 use Rattle.rules.proofs.Lengths.{length-lineWords, composed-places, composed-few}
@@ -159,6 +159,9 @@ module _ (t : Setting) (rs : List Rec) where
         let places = ap (λ n. take (2 * n) (drop 1544 (slotWords t rs))) slot-count ∙ slot-places in
         let words = ap (λ n. take (3 * n) (drop 2056 (slotWords t rs))) slot-line-count ∙ slot-lines in
         λ i. record { places = places i; lines = words i }
+
+    pub slot-as-ruled : AsRuled (slotWords t rs)
+    slot-as-ruled = slot-used ∙ rw (slot-measure, slot-indent, slot-records)
 
     -- the first record of each line
     pub slot-firsts : (j : ℕ) → j < length lines → getD (drop 2056 (slotWords t rs)) (3 * j) 0 ≡ start j lines

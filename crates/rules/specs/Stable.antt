@@ -3,6 +3,7 @@
 --
 --   stable       lines before f are the old ones, lines from r on are old lines, moved
 --   used words   of a slot: those of its places and lines up to the counts
+--   as ruled     a slot that holds what the rules give its records
 --   moved        line words and place words under other record numbers and line numbers
 --
 -- Assumes nothing.
@@ -11,8 +12,9 @@ use Prim.Native.Nat.{ℕ, zero, suc, _+_, _*_, _-_, _≤_, _<_}
 use mathlib.Core.Bool.{Bool, true, false}
 use mathlib.Core.List.{List, [], _∷_}
 use lib.ListN.{length, take, drop}
-use Rattle.rules.specs.Adjustment.{Line}
-use Rattle.rules.specs.Sheet.{placeWords, lineWords, countOf, lineCountOf}
+use Rattle.rules.specs.Groups.{units}
+use Rattle.rules.specs.Adjustment.{Line, compose}
+use Rattle.rules.specs.Sheet.{placeWords, lineWords, measureOf, indentOf, countOf, lineCountOf, recordsOf}
 use Rattle.rules.specs.Redone.{firstRedone, resumed}
 
 -- the first record of line j: what the lines before it count
@@ -76,6 +78,10 @@ usedBy ls = record { places = placeWords 0 ls; lines = lineWords 0 ls }
 abbrev pub usedOf : List ℕ → Used
 usedOf s =
     record { places = take (2 * countOf s) (drop 1544 s); lines = take (3 * lineCountOf s) (drop 2056 s) }
+
+-- a slot that holds what the rules give its records: its used words are those of the lines that they compose
+abbrev pub AsRuled : List ℕ → Type 0
+AsRuled s = usedOf s ≡ usedBy (compose (measureOf s) (indentOf s) (units (recordsOf s)))
 
 -- line words whose first records, and place words whose line numbers, are moved up by a and down by d
 unfoldable pub movedLines : ℕ → ℕ → List ℕ → List ℕ

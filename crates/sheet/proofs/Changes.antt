@@ -1,5 +1,5 @@
 -- What an accepted edit does on a sheet of any words, and what a read hands back after it. Assumes nothing.
-use mathlib.Core.Path.{_≡_, refl, sym, ap, _∙_}
+use mathlib.Core.Path.{_≡_, refl, sym, ap, subst, _∙_}
 use Prim.Native.Nat.{ℕ, _/_, _≤_}
 use native.Mathlib.Omega.{arith}
 use mathlib.Core.Bool.{true}
@@ -13,7 +13,7 @@ use Rattle.rules.specs.Groups.{TextUnit, units}
 use Rattle.rules.specs.Adjustment.{compose}
 use Rattle.rules.specs.Sheet.{Setting, lineWords, slotWords, clinicOf, measureOf, indentOf, settingOf, lineCountOf}
 use Rattle.rules.specs.Sheet.{recordsOf, slotAt}
-use Rattle.rules.specs.Stable.{usedBy, usedOf, StableEdit}
+use Rattle.rules.specs.Stable.{usedBy, usedOf, AsRuled, StableEdit}
 use Rattle.rules.specs.Refusals.{says, EditAnswer, asEdit, Outcome, linesRedone, edited, editRedone, slotRows, editSlot}
 use Rattle.rules.specs.Refusals.{callRows, called, onSlot, readNumber, readWords}
 use Rattle.rules.proofs.Facts.{tested}
@@ -23,7 +23,7 @@ use Rattle.rules.proofs.RedoneLines.{edit-stable}
 use Rattle.sheet.specs.Meanings.{Spliced}
 use Rattle.sheet.proofs.Tables.{same-number, lacking, passed}
 use Rattle.sheet.proofs.Reading.{number-0, read-slot}
-use Rattle.rules.proofs.SlotWords.{slot-setting, slot-line-count, slot-lines, slot-used}
+use Rattle.rules.proofs.SlotWords.{slot-setting, slot-line-count, slot-lines, slot-used, slot-as-ruled}
 use Rattle.sheet.proofs.OnSlot.{on-entering, on-refusing, on-length, on-slot}
 use Rattle.sheet.proofs.Alike.{called-alike}
 use Rattle.sheet.proofs.SlotChanges.{slot-judged, length-edit-slot, slot-accepted, slot-spliced}
@@ -104,15 +104,27 @@ module _ (ws : List ℕ) (caller k place deleted : ℕ) (inserted : List ℕ) wh
       (rw (length-records inserted 0 n) at
       (edit-stable m x (recordsOf before) place deleted (records inserted 0 n) (accepted-edit z .fits)))
 
-  -- and the slot's used words are those of its new lines
-  pub accepted-used : out .0 .number ≡ 0 → usedOf (slotAt (out .1) k) ≡ usedBy (compose m x us)
+  -- and the slot's words are those of its new lines
+  accepted-words : out .0 .number ≡ 0 →
+      (length (edited before place deleted inserted) ≤ 256)
+      × (slotAt (out .1) k ≡ slotWords (settingOf before) (edited before place deleted inserted))
   unfolding callRows slotRows
+  accepted-words z =
+      let f = from-slot 0 refl z in (
+        slot-judged before place deleted inserted 0 refl (f .number) .few,
+        f .slot
+            ∙ ap (λ (o : Outcome EditAnswer). o .1) (slot-accepted before place deleted inserted (f .number)),
+      )
+
+  pub accepted-used : out .0 .number ≡ 0 → usedOf (slotAt (out .1) k) ≡ usedBy (compose m x us)
   accepted-used z =
-      let f = from-slot 0 refl z in
-      let few = slot-judged before place deleted inserted 0 refl (f .number) .few in
-      ap usedOf
-      (f .slot ∙ ap (λ (o : Outcome EditAnswer). o .1) (slot-accepted before place deleted inserted (f .number)))
-      ∙ slot-used (settingOf before) (edited before place deleted inserted) few
+      let w = accepted-words z in
+      ap usedOf (w .1) ∙ slot-used (settingOf before) (edited before place deleted inserted) (w .0)
+
+  pub accepted-as-ruled : out .0 .number ≡ 0 → AsRuled (slotAt (out .1) k)
+  accepted-as-ruled z =
+      let w = accepted-words z in
+      subst AsRuled (sym (w .1)) (slot-as-ruled (settingOf before) (edited before place deleted inserted) (w .0))
 
   -- a refused one reports none
   pub refused-none : (out .0 .number ≡ 0 → ⊥) → out .0 .redone ≡ 0
@@ -134,10 +146,8 @@ module _ (ws : List ℕ) (caller k place deleted : ℕ) (inserted : List ℕ) wh
   read-after z =
       let f = from-slot 0 refl z in
       let rs = edited before place deleted inserted in
-      let few = slot-judged before place deleted inserted 0 refl (f .number) .few in
-      let s : slotAt (out .1) k ≡ slotWords (settingOf before) rs
-      = f .slot
-      ∙ ap (λ (o : Outcome EditAnswer). o .1) (slot-accepted before place deleted inserted (f .number)) in
+      let few = accepted-words z .0 in
+      let s = accepted-words z .1 in
       let clinic : clinicOf (slotAt (out .1) k) ≡ clinicOf before
       = ap clinicOf s ∙ ap (λ (t : Setting). t .clinic) (slot-setting (settingOf before) rs) in
       let called-again : called (out .1) caller k ≡ called ws caller k

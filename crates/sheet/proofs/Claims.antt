@@ -4,7 +4,7 @@
 -- specs/Meanings.antt; the rules in crate `rules`, whose own proofs/Claims.antt has what is proved of them alone.
 -- Assumes nothing.
 use mathlib.Core.Path.{_≡_}
-use Prim.Native.Nat.{ℕ, _*_, _/_}
+use Prim.Native.Nat.{ℕ, _*_, _/_, _<_}
 use mathlib.Core.List.{List, []}
 use mathlib.Core.Logic.{_↔_}
 use lib.ListN.{length, getD, take, drop}
@@ -13,9 +13,9 @@ use Rattle.rules.specs.Basics.{Run as RunOf}
 use Rattle.rules.specs.Groups.{TextUnit, units}
 use Rattle.rules.specs.Breaks.{runs, breaking}
 use Rattle.rules.specs.Adjustment.{Line, compose}
-use Rattle.rules.specs.Sheet.{lineWords, lineCountOf, measureOf, indentOf, recordsOf, slotAt}
+use Rattle.rules.specs.Sheet.{lineWords, lineCountOf, measureOf, indentOf, recordsOf, slotCount, slotAt}
 use Rattle.rules.specs.Refusals.{Outcome, edited}
-use Rattle.rules.specs.Stable.{Used, usedBy, usedOf, StableEdit}
+use Rattle.rules.specs.Stable.{Used, usedBy, usedOf, AsRuled, StableEdit}
 use Rattle.rules.specs.Meanings.{All, Choice, Fits, Longest, FirstWide, RubyPlaced}
 use Rattle.rules.proofs.Claims.{lines-chosen}
 use Rattle.sheet.specs.Book.{SlotCall, reads, Call, call-on, Reply, read-reply, numberOf, step}
@@ -25,14 +25,14 @@ use Rattle.sheet.specs.declared.Clinic.{Clinic}
 use Rattle.sheet.specs.declared.SlotNumber.{SlotNumber}
 use Rattle.sheet.proofs.Stays.{book-refused}
 use Rattle.sheet.proofs.Runs.{EditRun, caller, slot, place, deleted, inserted, answer, slotBefore, slotAfter}
-use Rattle.sheet.proofs.Runs.{Run, call, before, after, reply, Chained}
+use Rattle.sheet.proofs.Runs.{Run, call, before, after, reply, Chained, final}
 use Rattle.sheet.proofs.Told.{told}
 use Rattle.sheet.proofs.RunLaws.{run-unchanged, run-length, run-alike, run-frame, read-lines, read-nothing}
 use Rattle.sheet.proofs.RunLaws.{read-kept}
 use Rattle.sheet.proofs.EditRuns.{run-splices, run-found-0, run-0, run-10, run-10-place, run-rubies, run-read}
-use Rattle.sheet.proofs.EditRuns.{run-stable, run-used, run-words-stable, run-none}
+use Rattle.sheet.proofs.EditRuns.{run-stable, run-as-ruled, run-words-stable, run-none}
 use Rattle.sheet.proofs.Booked.{Begun, AsBooked}
-use Rattle.sheet.proofs.Histories.{as-booked}
+use Rattle.sheet.proofs.Histories.{as-booked, slots-as-ruled}
 use Rattle.sheet.proofs.setting.set_up.Statement as set-up-contract
 use Rattle.sheet.proofs.setting.set_up.Met as set-up-met
 use Rattle.sheet.proofs.edit.Statement as edit-contract
@@ -113,13 +113,13 @@ module _ (u : EditRun) where
   edit-stable h = run-stable u h
 
   -- of the slot's own words, where it held what the rules give its records
-  pub edit-words-stable : answer u .number ≡ 0 → usedOf (slotBefore u) ≡ usedBy old →
+  pub edit-words-stable : answer u .number ≡ 0 → AsRuled (slotBefore u) →
       StableIn (usedOf (slotBefore u)) (usedOf (slotAfter u))
   edit-words-stable h e = run-words-stable u h e
 
   -- as it does after every accepted edit
-  pub edit-words-used : answer u .number ≡ 0 → usedOf (slotAfter u) ≡ usedBy new
-  edit-words-used h = run-used u h
+  pub edit-as-ruled : answer u .number ≡ 0 → AsRuled (slotAfter u)
+  edit-as-ruled h = run-as-ruled u h
 
   -- a refused edit reports none
   pub refused-reports-none : (answer u .number ≡ 0 → ⊥) → answer u .redone ≡ 0
@@ -169,6 +169,12 @@ module _ (r : Run) (c : Clinic) (k : SlotNumber) (e : call r ≡ call-on c k rea
 -- claim about the whole of it
 pub demand-3 : (ws : List ℕ) (rs : List Run) → Begun rs → Chained ws rs → AsBooked ws rs
 demand-3 ws rs b c = as-booked ws rs b c
+
+-- after it each slot holds what the rules give its records, so that request 03's `edit-words-stable` holds of every
+-- accepted edit that follows
+pub sequence-as-ruled : (ws : List ℕ) (rs : List Run) → Begun rs → Chained ws rs → (k : ℕ) → k < slotCount ws →
+    AsRuled (slotAt (final ws rs) k)
+sequence-as-ruled ws rs b c k h = slots-as-ruled ws rs b c k h
 
 -- a call on a slot changes no word outside it, and a read none at all
 pub reach : (r : Run) (c : Clinic) (k : SlotNumber) (q : SlotCall) → call r ≡ call-on c k q →

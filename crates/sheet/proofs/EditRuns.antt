@@ -13,14 +13,15 @@ use Rattle.rules.specs.Groups.{TextUnit, units}
 use Rattle.rules.specs.Breaks.{runs, noBreaking}
 use Rattle.rules.specs.Adjustment.{Line, compose}
 use Rattle.rules.specs.Sheet.{lineWords, measureOf, indentOf, recordsOf, slotAt}
-use Rattle.rules.specs.Stable.{Used, usedBy, usedOf, StableEdit}
+use Rattle.rules.specs.Stable.{Used, usedBy, usedOf, AsRuled, StableEdit}
 use Rattle.rules.specs.Refusals.{EditAnswer, Outcome, splice, edited, edit, readNumber, readWords}
 use Rattle.rules.specs.Meanings.{All, Choice, Fits, FirstWide, RubyPlaced}
 use Rattle.rules.proofs.RubyPlaces.{rubies-placed}
 use Rattle.sheet.specs.Book.{reads, call-on, read-reply}
 use Rattle.sheet.specs.Meanings.{NoEarlier, Spliced}
 use Rattle.rules.proofs.SlotWords.{records-again}
-use Rattle.sheet.proofs.Changes.{accepted-edit, accepted-stable, accepted-used, refused-none, read-after}
+use Rattle.sheet.proofs.Changes.{accepted-edit, accepted-stable, accepted-used, accepted-as-ruled}
+use Rattle.sheet.proofs.Changes.{refused-none, read-after}
 use Rattle.sheet.proofs.Exactly.{found-0, exactly-0, exactly-10, place-10}
 use Rattle.sheet.proofs.Runs.{EditRun, caller, slot, place, deleted, inserted, answer, slotBefore, slotAfter}
 use Rattle.sheet.proofs.Runs.{Run, call, before, reply}
@@ -101,13 +102,19 @@ module _ (u : EditRun) where
       StableEdit (place u) (deleted u) (length (inserted u) / 6) old new (usedBy old) (usedBy new) (o .0 .redone))
       (accepted-stable ws (caller u .0) (slot u .0) (place u) (deleted u) (inserted u))
 
-  pub run-used : answer u .number ≡ 0 → usedOf (slotAfter u) ≡ usedBy new
+  run-used : answer u .number ≡ 0 → usedOf (slotAfter u) ≡ usedBy new
   unfolding edit
   run-used =
       by-contract (λ o. o .0 .number ≡ 0 → usedOf (slotAt (o .1) (slot u .0)) ≡ usedBy new)
       (accepted-used ws (caller u .0) (slot u .0) (place u) (deleted u) (inserted u))
 
-  pub run-words-stable : answer u .number ≡ 0 → usedOf (slotBefore u) ≡ usedBy old →
+  pub run-as-ruled : answer u .number ≡ 0 → AsRuled (slotAfter u)
+  unfolding edit
+  run-as-ruled =
+      by-contract (λ o. o .0 .number ≡ 0 → AsRuled (slotAt (o .1) (slot u .0)))
+      (accepted-as-ruled ws (caller u .0) (slot u .0) (place u) (deleted u) (inserted u))
+
+  pub run-words-stable : answer u .number ≡ 0 → AsRuled (slotBefore u) →
       StableIn (usedOf (slotBefore u)) (usedOf (slotAfter u))
   run-words-stable z e = subst (λ w. StableIn w (usedOf (slotAfter u))) (sym e)
       (subst (λ v. StableIn (usedBy old) v) (sym (run-used z)) (run-stable z))

@@ -7,10 +7,12 @@ use lib.ListN.{length}
 use denote.Ref.{now}
 use Rattle.rules.specs.Sheet.{slotCount, slotAt}
 use Rattle.rules.specs.Refusals.{Answer, says, Outcome, setUpAnswer, setUp}
+use Rattle.rules.specs.Stable.{AsRuled}
+use Rattle.rules.proofs.SlotWords.{slot-as-ruled}
 use Rattle.sheet.specs.Book.{Reply, set-up-reply, numberOf, step}
 use Rattle.sheet.specs.Book.{BookSlot, bookAt, encodeSlot, inWords, runBook}
 use Rattle.sheet.proofs.Tables.{same-number}
-use Rattle.sheet.proofs.Encode.{WellFormed, all-at, slot-of}
+use Rattle.sheet.proofs.Encode.{Sound, WellFormed, all-at, slot-of}
 use Rattle.sheet.proofs.Sequences.{begins-book, refused-book, remains, whole-sequence, restarts, never-4}
 use Rattle.sheet.proofs.Frame.{refused-unchanged, step-length}
 use Rattle.sheet.proofs.Runs.{SetUpRun, Run, set-up-run, call, before, after, reply, Chained, final}
@@ -104,13 +106,24 @@ module _ (ws : List ℕ) (rs : List Run) (b : Begun rs) (h : Chained ws rs) wher
   abbrev book : List BookSlot
   book = booked n rs .1
 
-  slot-is : (k : ℕ) → k < slotCount ws → BySingleEdit (bookAt book k) (slotAt (final ws rs) k)
-  slot-is k within =
+  slot-encoded : (k : ℕ) → k < slotCount ws →
+      Sound (bookAt book k) × (slotAt (final ws rs) k ≡ encodeSlot (bookAt book k))
+  slot-encoded k within =
       let g = kept ws rs b h in
-      let here : k < length book = omega (arith, g .well .exact) in
-      let e : slotAt (final ws rs) k ≡ encodeSlot (bookAt book k)
-      = ap (λ (o : List Reply × List ℕ). slotAt (o .1) k) (g .same) ∙ slot-of book (g .well .sound) k here in
-      rw e (by-single-edit (bookAt book k) (all-at (g .well .sound) k _ here))
+      let here : k < length book = omega (arith, g .well .exact) in (
+        all-at (g .well .sound) k _ here,
+        ap (λ (o : List Reply × List ℕ). slotAt (o .1) k) (g .same) ∙ slot-of book (g .well .sound) k here,
+      )
+
+  slot-is : (k : ℕ) → k < slotCount ws → BySingleEdit (bookAt book k) (slotAt (final ws rs) k)
+  slot-is k within = let e = slot-encoded k within in rw (e .1) (by-single-edit (bookAt book k) (e .0))
+
+  -- each slot holds what the rules give its records
+  pub slots-as-ruled : (k : ℕ) → k < slotCount ws → AsRuled (slotAt (final ws rs) k)
+  slots-as-ruled k within =
+      let e = slot-encoded k within in
+      let s = bookAt book k in
+      subst AsRuled (sym (e .1)) (slot-as-ruled (s .setting) (s .records) (e .0 .few))
 
   starts-anew : (qs : List Run) (v : SetUpRun) (ts : List Run) → rs ≡ qs ++ set-up-run v ∷ ts →
       v .result .number ≡ 0 →

@@ -1,18 +1,18 @@
 -- The count of the lines that an edit composes anew, as steps: what the search for r has passed. Assumes nothing.
-use mathlib.Core.Path.{_≡_, refl, _∙_}
+use mathlib.Core.Path.{_≡_}
 use Prim.Native.Nat.{ℕ, suc, _+_, _*_, _-_, _≤_, _<_}
 use native.Mathlib.Omega.{arith}
-use mathlib.Core.Bool.{true, false}
+use mathlib.Core.Bool.{false}
 use mathlib.Core.List.{List}
 use mathlib.Core.Logic.{inl, inr}
 use lib.ListN.{length, getD}
 use borrow.Author.Count.{below-more}
 use Rattle.rules.specs.Adjustment.{Line}
-use Rattle.rules.specs.Redone.{firstRedone, resumes, resumed, report, editLine}
-use Rattle.rules.specs.Stable.{start, FirstThat, Resumes}
-use Rattle.rules.proofs.Facts.{tested, ordered}
+use Rattle.rules.specs.Redone.{resumes, report, editLine}
+use Rattle.rules.specs.Stable.{start, Resumes}
+use Rattle.rules.proofs.Facts.{ordered}
 use Rattle.rules.proofs.EditLine.{starts-ascend, edit-line-last}
-use Rattle.rules.proofs.FirstLines.{resumed-first, first-only, resumes-exactly}
+use Rattle.rules.proofs.Resuming.{not-resumed, none-found, found}
 use Rattle.slot.specs.Redone.{Starts, LineWords, FirstFrom, FirstRedone, Reported}
 
 -- f -----------------------------------------------------------------------------------------------------------------
@@ -42,38 +42,6 @@ redone-from starts n place next f h e old s =
 pub record Passed (place deleted inserted : ℕ) (old new : List Line) (j k : ℕ) : Type 0 where
   pub none : (i : ℕ) → i < j → resumes place deleted inserted old i (start i new) ≡ false
   pub early : j < length new → (i : ℕ) → i < k → 1 ≤ i → start i old + inserted < start j new + deleted
-
-module _ (place deleted inserted : ℕ) (old new : List Line) where
-  not-resumed : (j i : ℕ) → (Resumes place deleted inserted old j i → ⊥) →
-      resumes place deleted inserted old j i ≡ false
-  not-resumed j i h =
-      elim (tested (resumes place deleted inserted old j i)) [
-        | inl e ↦ absurd (h (resumes-exactly place deleted inserted old j i .0 e))
-        | inr e ↦ e
-      ]
-
-  -- whoever has passed all lines, or found one that resumes, has r
-  none-found : (n : ℕ) → length new ≤ n →
-      ((i : ℕ) → i < n → resumes place deleted inserted old i (start i new) ≡ false) →
-      resumed place deleted inserted old new ≡ length new
-  none-found n h g =
-      first-only (resumes place deleted inserted old) new _ _ (resumed-first place deleted inserted old new)
-      record {
-        none-before = λ i b. g i (omega arith);
-        passes = λ b. absurd (omega arith);
-        within = omega arith;
-      }
-
-  found : (j : ℕ) → j < length new →
-      ((i : ℕ) → i < j → resumes place deleted inserted old i (start i new) ≡ false) →
-      Resumes place deleted inserted old j (start j new) → resumed place deleted inserted old new ≡ j
-  found j h g r =
-      first-only (resumes place deleted inserted old) new _ _ (resumed-first place deleted inserted old new)
-      record {
-        none-before = g;
-        passes = λ b. resumes-exactly place deleted inserted old j (start j new) .1 r;
-        within = omega arith;
-      }
 
 module _ (starts : List ℕ) (n : ℕ) (words : List ℕ) (count place deleted inserted : ℕ) where
   -- the search stands at new line j and old line k; this holds of whatever lines start so

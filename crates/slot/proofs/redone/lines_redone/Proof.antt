@@ -3,7 +3,6 @@
 use Prim.Native.Nat.{_*_, _-_}
 use native.Mathlib.Omega.{arith}
 use mathlib.Core.Logic.{⊎-elim}
-use denote.Ref.{now}
 use borrow.Author.Needs.{needs}
 use Rattle.slot.proofs.Report.{Searching, search-start, search-end, search-early, search-found, search-next}
 use Rattle.slot.proofs.redone.lines_redone.Statement.{statement}
