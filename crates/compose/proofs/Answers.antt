@@ -15,7 +15,7 @@ use Rattle.rules.specs.Groups.{TextUnit, sameGroup, badGroup, groupFault, units
 use Rattle.rules.specs.Breaks.{bound, runs, noBreaking}
 use Rattle.rules.specs.Adjustment.{lineOf, linesOf, compose}
 use Rattle.rules.specs.Refusals.{says, judged}
-use Rattle.rules.specs.Stable.{start}
+use Rattle.rules.specs.Redone.{start}
 use Rattle.rules.proofs.Facts.{tested, some-none, some-same}
 use Rattle.rules.proofs.Cuts.{cut-joined, joined-append}
 use Rattle.rules.proofs.NoBreaking.{counts-append, place-of-10}

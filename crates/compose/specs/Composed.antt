@@ -16,7 +16,7 @@ use lib.ListN.{getD}
 use Rattle.rules.specs.Groups.{units}
 use Rattle.rules.specs.Breaks.{noBreaking}
 use Rattle.rules.specs.Refusals.{says, judged}
-use Rattle.rules.specs.Stable.{start}
+use Rattle.rules.specs.Redone.{start}
 use Rattle.compose.specs.Paragraph.{size, paragraph, Checked}
 use Rattle.compose.specs.Tables.{UnitTable, GapTable, RunTable}
 use Rattle.compose.specs.Lines.{composed, Broken, Written}

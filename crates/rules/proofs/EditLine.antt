@@ -9,8 +9,8 @@ use lib.Dec.{ltb}
 use lib.ListN.{length, take, length-take}
 use borrow.Author.Tests.{ltb-true, ltb-false, lt-ltb, le-ltb}
 use Rattle.rules.specs.Adjustment.{Line}
-use Rattle.rules.specs.Redone.{holding, editLine, firstRedone}
-use Rattle.rules.specs.Stable.{start, Holds}
+use Rattle.rules.specs.Redone.{start, holding, editLine, firstRedone}
+use Rattle.rules.specs.Stable.{Holds}
 use Rattle.rules.proofs.Facts.{tested, ordered}
 
 -- a line up to the one that holds record i starts at it or before it

@@ -7,8 +7,8 @@ use mathlib.Core.Bool.{Bool, false}
 use mathlib.Core.List.{List, [], _∷_}
 use mathlib.Core.Logic.{inl, inr}
 use Rattle.rules.specs.Adjustment.{Line}
-use Rattle.rules.specs.Redone.{firstLine, resumes, resumed}
-use Rattle.rules.specs.Stable.{start, FirstThat}
+use Rattle.rules.specs.Redone.{start, firstLine, resumes, resumed}
+use Rattle.rules.specs.Stable.{FirstThat}
 use Rattle.rules.proofs.Facts.{tested, ordered, true-false}
 
 -- of lines, the first of which is line j, starts at record i and does not pass

@@ -13,7 +13,7 @@ use Rattle.rules.specs.Records.{Rec}
 use Rattle.rules.specs.Groups.{TextUnit, units, counts}
 use Rattle.rules.specs.Adjustment.{lineOf, linesOf, compose}
 use Rattle.rules.specs.Refusals.{splice}
-use Rattle.rules.specs.Stable.{start}
+use Rattle.rules.specs.Redone.{start}
 use Rattle.rules.proofs.NoBreaking.{counts-append}
 use Rattle.rules.proofs.Breaking.{breaking-choice}
 use Rattle.rules.proofs.Lengths.{length-linesOf, counts-units}

@@ -14,7 +14,8 @@ use Rattle.rules.specs.Groups.{TextUnit, units}
 use Rattle.rules.specs.Adjustment.{Line, lineOf, linesOf, isEmpty, compose}
 use Rattle.rules.specs.Sheet.{placesOf, placeWords, lineWords}
 use Rattle.rules.specs.Meanings.{All, all-none, all-more}
-use Rattle.rules.specs.Stable.{start, StableAround, usedBy, movedLines, movedPlaces, WordsStable}
+use Rattle.rules.specs.Redone.{start}
+use Rattle.rules.specs.Stable.{StableAround, usedBy, movedLines, movedPlaces, WordsStable}
 use Rattle.rules.proofs.Facts.{ordered, cons-path}
 use Rattle.rules.proofs.Lengths.{length-xs, length-placesOf}
 

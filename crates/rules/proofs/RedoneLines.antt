@@ -11,8 +11,8 @@ use Rattle.rules.specs.Records.{Rec}
 use Rattle.rules.specs.Groups.{units}
 use Rattle.rules.specs.Adjustment.{Line, compose}
 use Rattle.rules.specs.Refusals.{splice}
-use Rattle.rules.specs.Redone.{firstRedone, resumed, report}
-use Rattle.rules.specs.Stable.{start, StableAround, Resumes, usedBy, StableEdit}
+use Rattle.rules.specs.Redone.{start, firstRedone, resumed, report}
+use Rattle.rules.specs.Stable.{StableAround, Resumes, usedBy, StableEdit}
 use Rattle.rules.proofs.Facts.{ordered}
 use Rattle.rules.proofs.Splices.{splice-after}
 use Rattle.rules.proofs.KeptLines.{lines-from, lines-kept}

@@ -10,8 +10,8 @@ use lib.ListN.{length, drop}
 use borrow.Author.Tests.{leb-true, le-leb, eqb-true, eq-eqb}
 use Rattle.rules.specs.Basics.{isIn}
 use Rattle.rules.specs.Adjustment.{Line}
-use Rattle.rules.specs.Redone.{starts, firstRedone, resumes, resumed}
-use Rattle.rules.specs.Stable.{start, Resumes}
+use Rattle.rules.specs.Redone.{starts, start, firstRedone, resumes, resumed}
+use Rattle.rules.specs.Stable.{Resumes}
 use Rattle.rules.proofs.Facts.{tested, true-false}
 use Rattle.rules.proofs.FirstLines.{resumed-first, first-only}
 

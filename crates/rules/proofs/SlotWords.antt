@@ -13,7 +13,8 @@ use Rattle.rules.specs.Breaks.{runs, breaking}
 use Rattle.rules.specs.Adjustment.{Line, linesOf, compose}
 use Rattle.rules.specs.Sheet.{Setting, placeWords, lineWords, head, slotWords, fresh}
 use Rattle.rules.specs.Sheet.{measureOf, indentOf, settingOf, countOf, lineCountOf, recordsOf}
-use Rattle.rules.specs.Stable.{start, usedBy, usedOf, AsRuled}
+use Rattle.rules.specs.Redone.{start}
+use Rattle.rules.specs.Stable.{usedBy, usedOf, AsRuled}
 use Rattle.rules.proofs.Facts.{cons-path}
 use Rattle.rules.proofs.Zeros.{length-zeros, zeros-append}
 use Rattle.rules.proofs.Lengths.{length-lineWords, composed-places, composed-few}

@@ -9,7 +9,7 @@
 --   resumed      r: the first line that is not; there an old line stands again, moved
 --
 -- Assumes nothing.
-use Prim.Native.Nat.{ℕ, suc, _+_, _-_, min}
+use Prim.Native.Nat.{ℕ, zero, suc, _+_, _-_, min}
 use mathlib.Core.Bool.{Bool, true, false, _&&_}
 use mathlib.Core.List.{List, [], _∷_}
 use lib.Dec.{leb, ltb}
@@ -21,6 +21,12 @@ use Rattle.rules.specs.Adjustment.{Line}
 unfoldable pub starts : ℕ → List Line → List ℕ
 starts i [] = []
 starts i (l ∷ ls) = i ∷ starts (i + l .count) ls
+
+-- the first record of line j: what the lines before it count
+unfoldable pub start : ℕ → List Line → ℕ
+start zero ls = 0
+start (suc j) [] = 0
+start (suc j) (l ∷ ls) = l .count + start j ls
 
 -- the line that holds record i, or the number of lines if none does
 unfoldable pub holding : ℕ → List Line → ℕ

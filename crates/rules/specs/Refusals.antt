@@ -46,7 +46,7 @@ editSays n p redone = record { number = n; place = p; redone = redone }
 abbrev pub asEdit : Answer → EditAnswer
 asEdit a = editSays (a .number) (a .place) 0
 
--- an answer of the tables, refusal or not, with the lines redone where it is none
+-- an answer of the tables, with the lines redone where it is 0
 abbrev pub reporting : Answer → ℕ → EditAnswer
 reporting a redone = editSays (a .number) (a .place) (cond (eqb (a .number) 0) redone 0)
 

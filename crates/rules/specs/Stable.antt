@@ -8,20 +8,14 @@
 --
 -- Assumes nothing.
 use mathlib.Core.Path.{_≡_}
-use Prim.Native.Nat.{ℕ, zero, suc, _+_, _*_, _-_, _≤_, _<_}
+use Prim.Native.Nat.{ℕ, suc, _+_, _*_, _-_, _≤_, _<_}
 use mathlib.Core.Bool.{Bool, true, false}
 use mathlib.Core.List.{List, [], _∷_}
 use lib.ListN.{length, take, drop}
 use Rattle.rules.specs.Groups.{units}
 use Rattle.rules.specs.Adjustment.{Line, compose}
 use Rattle.rules.specs.Sheet.{placeWords, lineWords, measureOf, indentOf, countOf, lineCountOf, recordsOf}
-use Rattle.rules.specs.Redone.{firstRedone, resumed}
-
--- the first record of line j: what the lines before it count
-unfoldable pub start : ℕ → List Line → ℕ
-start zero ls = 0
-start (suc j) [] = 0
-start (suc j) (l ∷ ls) = l .count + start j ls
+use Rattle.rules.specs.Redone.{start, firstRedone, resumed}
 
 -- What k, r and the test of r mean -----------------------------------------------------------------------------------
 
@@ -79,9 +73,13 @@ abbrev pub usedOf : List ℕ → Used
 usedOf s =
     record { places = take (2 * countOf s) (drop 1544 s); lines = take (3 * lineCountOf s) (drop 2056 s) }
 
--- a slot that holds what the rules give its records: its used words are those of the lines that they compose
+-- the lines that the rules give a slot's records
+abbrev pub ruledLines : List ℕ → List Line
+ruledLines s = compose (measureOf s) (indentOf s) (units (recordsOf s))
+
+-- a slot that holds what the rules give its records
 abbrev pub AsRuled : List ℕ → Type 0
-AsRuled s = usedOf s ≡ usedBy (compose (measureOf s) (indentOf s) (units (recordsOf s)))
+AsRuled s = usedOf s ≡ usedBy (ruledLines s)
 
 -- line words whose first records, and place words whose line numbers, are moved up by a and down by d
 unfoldable pub movedLines : ℕ → ℕ → List ℕ → List ℕ

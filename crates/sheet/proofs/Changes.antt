@@ -13,7 +13,7 @@ use Rattle.rules.specs.Groups.{TextUnit, units}
 use Rattle.rules.specs.Adjustment.{compose}
 use Rattle.rules.specs.Sheet.{Setting, lineWords, slotWords, clinicOf, measureOf, indentOf, settingOf, lineCountOf}
 use Rattle.rules.specs.Sheet.{recordsOf, slotAt}
-use Rattle.rules.specs.Stable.{usedBy, usedOf, AsRuled, StableEdit}
+use Rattle.rules.specs.Stable.{usedBy, usedOf, ruledLines, AsRuled, StableEdit}
 use Rattle.rules.specs.Refusals.{says, EditAnswer, asEdit, Outcome, linesRedone, edited, editRedone, slotRows, editSlot}
 use Rattle.rules.specs.Refusals.{callRows, called, onSlot, readNumber, readWords}
 use Rattle.rules.proofs.Facts.{tested}
@@ -90,7 +90,7 @@ module _ (ws : List ℕ) (caller k place deleted : ℕ) (inserted : List ℕ) wh
 
   -- its lines around those that it composes anew stay, and it reports these
   pub accepted-stable : out .0 .number ≡ 0 →
-      let old = compose m x (units (recordsOf before)) in
+      let old = ruledLines before in
       let new = compose m x us in
       StableEdit place deleted (length inserted / 6) old new (usedBy old) (usedBy new) (out .0 .redone)
   unfolding callRows linesRedone

@@ -15,7 +15,7 @@ use Rattle.rules.specs.Breaks.{runs, breaking}
 use Rattle.rules.specs.Adjustment.{Line, compose}
 use Rattle.rules.specs.Sheet.{lineWords, lineCountOf, measureOf, indentOf, recordsOf, slotCount, slotAt}
 use Rattle.rules.specs.Refusals.{Outcome, edited}
-use Rattle.rules.specs.Stable.{Used, usedBy, usedOf, AsRuled, StableEdit}
+use Rattle.rules.specs.Stable.{Used, usedBy, usedOf, ruledLines, AsRuled, StableEdit}
 use Rattle.rules.specs.Meanings.{All, Choice, Fits, Longest, FirstWide, RubyPlaced}
 use Rattle.rules.proofs.Claims.{lines-chosen}
 use Rattle.sheet.specs.Book.{SlotCall, reads, Call, call-on, Reply, read-reply, numberOf, step}
@@ -100,7 +100,7 @@ module _ (u : EditRun) where
   -- places and lines w and left v keeps all lines before f, and all from r on but for their numbers, and reports the
   -- number of those between
   abbrev old : List Line
-  old = compose m x (units (recordsOf (slotBefore u)))
+  old = ruledLines (slotBefore u)
 
   abbrev new : List Line
   new = compose m x us

@@ -13,7 +13,7 @@ use Rattle.rules.specs.Groups.{TextUnit, units}
 use Rattle.rules.specs.Breaks.{runs, noBreaking}
 use Rattle.rules.specs.Adjustment.{Line, compose}
 use Rattle.rules.specs.Sheet.{lineWords, measureOf, indentOf, recordsOf, slotAt}
-use Rattle.rules.specs.Stable.{Used, usedBy, usedOf, AsRuled, StableEdit}
+use Rattle.rules.specs.Stable.{Used, usedBy, usedOf, ruledLines, AsRuled, StableEdit}
 use Rattle.rules.specs.Refusals.{EditAnswer, Outcome, splice, edited, edit, readNumber, readWords}
 use Rattle.rules.specs.Meanings.{All, Choice, Fits, FirstWide, RubyPlaced}
 use Rattle.rules.proofs.RubyPlaces.{rubies-placed}
@@ -85,7 +85,7 @@ module _ (u : EditRun) where
 
   -- the slot's lines by the rules, before and after
   abbrev pub old : List Line
-  old = compose m x (units (recordsOf (slotBefore u)))
+  old = ruledLines (slotBefore u)
 
   abbrev pub new : List Line
   new = compose m x us

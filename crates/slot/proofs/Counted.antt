@@ -12,16 +12,16 @@ use Rattle.rules.specs.Records.{Rec}
 use Rattle.rules.specs.Groups.{units}
 use Rattle.rules.specs.Adjustment.{Line, compose}
 use Rattle.rules.specs.Sheet.{slotWords, measureOf, indentOf, settingOf, countOf, recordsOf}
-use Rattle.rules.specs.Redone.{report}
-use Rattle.rules.specs.Stable.{start}
+use Rattle.rules.specs.Redone.{start, report}
 use Rattle.rules.specs.Refusals.{Answer, says, EditAnswer, editSays, reporting, Outcome, linesRedone, edited}
 use Rattle.rules.specs.Refusals.{editRedone}
+use Rattle.rules.specs.Stable.{ruledLines}
 use Rattle.rules.proofs.Facts.{tested}
 use Rattle.rules.proofs.Lengths.{composed-few}
 use Rattle.rules.proofs.Words.{length-records}
 use Rattle.rules.proofs.SlotWords.{slot-firsts}
 use Rattle.slot.specs.Redone.{Starts, Reported, Countable, Counted}
-use Rattle.slot.specs.Slot.{linesOf, replaced}
+use Rattle.slot.specs.Slot.{replaced}
 use Rattle.slot.proofs.Replaced.{accepted-words}
 
 module _ (s : List ℕ) (place deleted : ℕ) (ins : List ℕ) (few : countOf s ≤ 256)
@@ -33,7 +33,7 @@ module _ (s : List ℕ) (place deleted : ℕ) (ins : List ℕ) (few : countOf s 
   newLines = compose (measureOf s) (indentOf s) (units new)
 
   pub countable : (words : List ℕ) (n number count : ℕ) → place + deleted ≤ countOf s → length ins / 6 ≤ 256 →
-      n ≡ length (linesOf s) → _≡_ {A = Outcome Answer} (says number count, words) (replaced s new) → number ≡ 0 →
+      n ≡ length (ruledLines s) → _≡_ {A = Outcome Answer} (says number count, words) (replaced s new) → number ≡ 0 →
       Countable n count place deleted (length ins / 6)
   countable words n number count within some o e z =
       let a = accepted-words s new number count words z e .0 in
@@ -47,7 +47,7 @@ module _ (s : List ℕ) (place deleted : ℕ) (ins : List ℕ) (few : countOf s 
         few-inserted = some;
       }
 
-  reports : (starts words : List ℕ) (n count redone : ℕ) → Starts starts n (linesOf s) → count ≡ length newLines →
+  reports : (starts words : List ℕ) (n count redone : ℕ) → Starts starts n (ruledLines s) → count ≡ length newLines →
       words ≡ slotWords (settingOf s) new →
       Reported starts n (drop 2056 words) count place deleted (length ins / 6) redone →
       redone ≡ editRedone s place deleted ins
@@ -55,10 +55,11 @@ module _ (s : List ℕ) (place deleted : ℕ) (ins : List ℕ) (few : countOf s 
   reports starts words n count redone o c w r =
       let first : (j : ℕ) → j < count → getD (drop 2056 words) (3 * j) 0 ≡ start j newLines
       = λ j h. rw w (slot-firsts (settingOf s) new new-few j (omega arith)) in
-      r (linesOf s) newLines o record { count = c; first = first }
-      ∙ ap (λ k. report place deleted k (linesOf s) newLines) (sym (length-records ins 0 (length ins / 6)))
+      r (ruledLines s) newLines o record { count = c; first = first }
+      ∙ ap (λ k. report place deleted k (ruledLines s) newLines) (sym (length-records ins 0 (length ins / 6)))
 
-  pub counted-answer : (starts words : List ℕ) (n number count answer lines redone : ℕ) → Starts starts n (linesOf s) →
+  pub counted-answer : (starts words : List ℕ) (n number count answer lines redone : ℕ) →
+      Starts starts n (ruledLines s) →
       _≡_ {A = Outcome Answer} (says number count, words) (replaced s new) →
       Counted starts n words number count place deleted (length ins / 6) answer lines redone →
       let o = replaced s new in

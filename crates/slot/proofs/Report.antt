@@ -8,8 +8,8 @@ use mathlib.Core.Logic.{inl, inr}
 use lib.ListN.{length, getD}
 use borrow.Author.Count.{below-more}
 use Rattle.rules.specs.Adjustment.{Line}
-use Rattle.rules.specs.Redone.{resumes, report, editLine}
-use Rattle.rules.specs.Stable.{start, Resumes}
+use Rattle.rules.specs.Redone.{start, resumes, report, editLine}
+use Rattle.rules.specs.Stable.{Resumes}
 use Rattle.rules.proofs.Facts.{ordered}
 use Rattle.rules.proofs.EditLine.{starts-ascend, edit-line-last}
 use Rattle.rules.proofs.Resuming.{not-resumed, none-found, found}

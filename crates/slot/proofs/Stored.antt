@@ -12,14 +12,15 @@ use Rattle.rules.specs.Basics.{within}
 use Rattle.rules.specs.Records.{records}
 use Rattle.rules.specs.Sheet.{measureOf, indentOf, countOf, recordsOf, limitsOk}
 use Rattle.rules.specs.Refusals.{says, judged, sound}
-use Rattle.rules.specs.Stable.{start}
+use Rattle.rules.specs.Redone.{start}
+use Rattle.rules.specs.Stable.{ruledLines}
 use Rattle.rules.proofs.Bounds.{within-high}
 use Rattle.rules.proofs.Limits.{and-left, and-right}
 use Rattle.rules.proofs.Words.{records-take}
 use Rattle.rules.proofs.Judged.{line-count}
 use Rattle.compose.specs.Paragraph.{size, paragraph}
 use Rattle.compose.specs.Composed.{Fitting}
-use Rattle.slot.specs.Slot.{linesOf, StoredLines}
+use Rattle.slot.specs.Slot.{StoredLines}
 
 -- measure and indent within limits
 pub limits-measure : (m x : ℕ) → limitsOk m x ≡ true → m ≤ 1000000
@@ -100,7 +101,7 @@ refused-sound s number place t a z = t ∙ rw a (ne-eqb number 0 z)
 pub stored-sound : (s starts : List ℕ) (number place : ℕ) →
     sound s ≡ eqb (judged (measureOf s) (indentOf s) (recordsOf s) .number) 0 →
     judged (measureOf s) (indentOf s) (recordsOf s) ≡ says number place → number ≡ 0 →
-    ((j : ℕ) → j < place → getD starts j 0 ≡ start j (linesOf s)) → StoredLines s starts number place
+    ((j : ℕ) → j < place → getD starts j 0 ≡ start j (ruledLines s)) → StoredLines s starts number place
 stored-sound s starts number place t a z f =
     let b : sound s ≡ true = t ∙ rw (a, z) in
     record {

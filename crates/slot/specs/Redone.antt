@@ -11,8 +11,7 @@ use mathlib.Core.Bool.{Bool, true, false}
 use mathlib.Core.List.{List}
 use lib.ListN.{length, getD, drop}
 use Rattle.rules.specs.Adjustment.{Line}
-use Rattle.rules.specs.Redone.{firstRedone, report}
-use Rattle.rules.specs.Stable.{start}
+use Rattle.rules.specs.Redone.{start, firstRedone, report}
 
 pub record Firsts (at : ℕ → ℕ) (n : ℕ) (ls : List Line) : Type 0 where
   pub count : n ≡ length ls

@@ -14,10 +14,9 @@ use lib.Dec.{eqb}
 use lib.ListN.{length, take, drop}
 use Rattle.rules.specs.Basics.{zeros}
 use Rattle.rules.specs.Records.{Rec}
-use Rattle.rules.specs.Groups.{units}
-use Rattle.rules.specs.Adjustment.{Line, compose}
-use Rattle.rules.specs.Sheet.{head, slotWords, measureOf, indentOf, settingOf, recordsOf, limitsOk}
+use Rattle.rules.specs.Sheet.{head, slotWords, measureOf, indentOf, settingOf, limitsOk}
 use Rattle.rules.specs.Refusals.{Answer, Outcome, judged, sound}
+use Rattle.rules.specs.Stable.{ruledLines}
 use Rattle.slot.specs.Redone.{Starts}
 
 abbrev pub headOf : List ℕ → ℕ → ℕ → List ℕ
@@ -32,13 +31,9 @@ abbrev pub splicedInto : List ℕ → List ℕ → ℕ → ℕ → List ℕ → 
 splicedInto list ws before after inserted =
     spliced ws before after inserted ++ drop (before + length inserted + (length ws - after)) list
 
--- the lines that the rules give a slot's records
-abbrev pub linesOf : List ℕ → List Line
-linesOf s = compose (measureOf s) (indentOf s) (units (recordsOf s))
-
 pub record StoredLines (s starts : List ℕ) (number place : ℕ) : Type 0 where
   pub answer : number ≡ cond (sound s) 0 4
-  pub lines : number ≡ 0 → Starts starts place (linesOf s)
+  pub lines : number ≡ 0 → Starts starts place (ruledLines s)
 
 unfoldable pub replaced : List ℕ → List Rec → Outcome Answer
 replaced s rs =

@@ -9,8 +9,9 @@ use denote.Ref.{now}
 use Rattle.rules.specs.Basics.{zeros}
 use Rattle.rules.specs.Sheet.{countOf}
 use Rattle.rules.specs.Refusals.{Answer, says, Outcome, sound, edited}
+use Rattle.rules.specs.Stable.{ruledLines}
 use Rattle.slot.specs.Redone.{Starts}
-use Rattle.slot.specs.Slot.{linesOf, replaced, Replaceable}
+use Rattle.slot.specs.Slot.{replaced, Replaceable}
 use Rattle.slot.proofs.Replaced.{replaced-length}
 use Rattle.slot.proofs.Counted.{countable, counted-answer}
 use Rattle.slot.proofs.Stored.{sound-limits, sound-count, stored-0, stored-4}
@@ -139,7 +140,7 @@ replace-requires c κs = replaceable-at (c .before .before .before)
 -- the old lines' first records, and what becomes of the slot
 starts-at : (c : tie.Else1) →
     let k = c .before .before .stored-lines in
-    Starts (k .last .1 .0) (k .result .place) (linesOf (now (past-4 c .args .words)))
+    Starts (k .last .1 .0) (k .result .place) (ruledLines (now (past-4 c .args .words)))
 starts-at c = c .before .before .stored-lines .ensures .lines (c .if1 .left)
 
 replaced-at : (c : tie.After-replace) →

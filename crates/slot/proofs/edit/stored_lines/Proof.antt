@@ -8,7 +8,7 @@ use Rattle.rules.specs.Groups.{units}
 use Rattle.rules.specs.Adjustment.{compose}
 use Rattle.rules.specs.Sheet.{measureOf, indentOf, limitsOk}
 use Rattle.rules.specs.Refusals.{judged}
-use Rattle.rules.specs.Stable.{start}
+use Rattle.rules.specs.Redone.{start}
 use Rattle.slot.proofs.Stored.{fitting, stored-size, stored-paragraph, limits-off, count-off, records-tell}
 use Rattle.slot.proofs.Stored.{stored-damaged, refused-sound, stored-sound}
 use borrow.Author.Needs.{needs}
