@@ -167,8 +167,8 @@ returns-6 c =
     let s = listed r in
     let a = spliced s .args in
     let w = now (a .words) in
-    counted-answer w (a .place) (a .deleted) (now (a .inserted)) (few-at (four s)) (new-list-at s .new-few) _ _ _ _ _ _ _
-    _ (starts-at (four s)) (replaced-at r) (c .counted .ensures)
+    counted-answer w (a .place) (a .deleted) (now (a .inserted)) (few-at (four s)) (new-list-at s .new-few) _ _ _ _ _
+    _ _ _ (starts-at (four s)) (replaced-at r) (c .counted .ensures)
     ∙ sym
     (replaces w (a .place) (a .deleted) (now (a .inserted)) (is-sound-at (four s)) (within-at (five s))
     (seven s .before .if4 .left)
