@@ -1,4 +1,5 @@
--- What an accepted edit does on a sheet of any words, and what a read hands back after it. Assumes nothing.
+-- What an accepted edit does on a sheet of any words and reports, and what a read hands back after it; a refused one
+-- reports nothing. Assumes nothing.
 use mathlib.Core.Path.{_≡_, refl, sym, ap, subst, _∙_}
 use Prim.Native.Nat.{ℕ, _/_, _≤_}
 use native.Mathlib.Omega.{arith}
