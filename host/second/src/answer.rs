@@ -68,7 +68,7 @@ pub struct RubyPlace {
     pub offset: u32,
 }
 
-/// Why a call is refused, in the table's order. The place is carried where it is not always 0.
+/// Why a call is refused, in the order of the checks. The place is carried where it is not always 0.
 #[derive(Debug, Clone, Copy, PartialEq, Eq)]
 pub enum Refusal {
     /// 1: the sheet's length, or a set-up list's, is wrong.
@@ -87,6 +87,8 @@ pub enum Refusal {
     TooMany,
     /// 8: this record breaks its own rules.
     Record(usize),
+    /// 12: this record's class has a list without its code point (document 02, request 04).
+    NotListed(usize),
     /// 9: this record breaks a group rule.
     Group(usize),
     /// 10: the run that starts with this record is wider than the measure.
@@ -96,7 +98,7 @@ pub enum Refusal {
 }
 
 impl Refusal {
-    /// The number in document 01's table.
+    /// The number in document 01's table, or in the request that adds it.
     pub fn number(self) -> u32 {
         match self {
             Refusal::Length => 1,
@@ -107,17 +109,19 @@ impl Refusal {
             Refusal::Words => 6,
             Refusal::TooMany => 7,
             Refusal::Record(_) => 8,
+            Refusal::NotListed(_) => 12,
             Refusal::Group(_) => 9,
             Refusal::NoBreaking(_) => 10,
             Refusal::Limits(_) => 11,
         }
     }
 
-    /// The place in document 01's table.
+    /// The place that goes with the number.
     pub fn place(self) -> u32 {
         match self {
             Refusal::Place(at)
             | Refusal::Record(at)
+            | Refusal::NotListed(at)
             | Refusal::Group(at)
             | Refusal::NoBreaking(at)
             | Refusal::Limits(at) => at as u32,

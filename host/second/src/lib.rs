@@ -7,7 +7,8 @@
 //! | Module | Document 01 |
 //! |---|---|
 //! | [`answer`] | "Refusal numbers, in the order they are checked" |
-//! | [`records`] | "Records and groups", a record's own rules and the group rules |
+//! | [`records`] | "Records and groups", a record's own rules and the group rules; request 04 |
+//! | [`lists`] | which characters a class has: document 02, request 04 |
 //! | [`units`] | "Records and groups", units and the two rows of a group |
 //! | [`spacing`] | "Space between units", and how far each space gives way |
 //! | [`breaking`] | "Breaks and adjustment", where lines end; request 01 |
@@ -32,6 +33,7 @@ pub mod breaking;
 pub mod by_hand;
 pub mod compose;
 pub mod kept;
+pub mod lists;
 pub mod records;
 pub mod redone;
 pub mod sheet;
@@ -39,5 +41,6 @@ pub mod spacing;
 pub mod units;
 
 pub use answer::{Answer, EditAnswer, RubyPlace};
+pub use lists::{class_of, in_list};
 pub use sheet::{edit, read, read_number, set_up, slot_words, Edit};
 pub use units::ruby_place;

@@ -1,6 +1,8 @@
-//! Records, a record's own rules and the group rules (document 01, "Records and groups").
+//! Records, a record's own rules and the group rules (document 01, "Records and groups"), and that a record's
+//! class has its code point (document 02, request 04).
 
 use crate::answer::Refusal;
+use crate::lists::in_list;
 
 /// Words of a record: code point, class, size, advance, group, ruby count.
 pub const RECORD_WORDS: usize = 6;
@@ -126,6 +128,11 @@ pub fn decode_all(words: &[[u32; RECORD_WORDS]]) -> Result<Vec<Record>, usize> {
     Ok(records)
 }
 
+/// The first record whose class's list lacks its code point (answer 12).
+pub fn first_unlisted(records: &[Record]) -> Option<usize> {
+    records.iter().position(|record| !in_list(record.class.number().into(), record.code_point))
+}
+
 /// The first record that breaks a group rule (answer 9): it differs in size or ruby count from the
 /// one before it in its group, or is its group's seventeenth.
 pub fn first_group_fault(records: &[Record]) -> Option<usize> {
@@ -145,8 +152,8 @@ pub fn first_group_fault(records: &[Record]) -> Option<usize> {
     None
 }
 
-/// The records after an edit, or answer 5, 6, 7 or 8. The old records keep their own rules, so only
-/// an inserted one can break them.
+/// The records after an edit, or answer 5, 6, 7, 8 or 12. The old records keep their own rules and stand in
+/// their classes' lists, so only an inserted one can fall under 8 or 12.
 pub fn spliced(old: &[Record], place: u32, deleted: u32, inserted: &[u32]) -> Result<Vec<Record>, Refusal> {
     let end = u64::from(place) + u64::from(deleted);
     if end > old.len() as u64 {
@@ -162,5 +169,8 @@ pub fn spliced(old: &[Record], place: u32, deleted: u32, inserted: &[u32]) -> Re
         return Err(Refusal::TooMany);
     }
     let inserted = decode_all(inserted).map_err(|i| Refusal::Record(place + i))?;
+    if let Some(i) = first_unlisted(&inserted) {
+        return Err(Refusal::NotListed(place + i));
+    }
     Ok([before, &inserted, after].concat())
 }

@@ -6,7 +6,7 @@ use std::ops::Range;
 use crate::answer::{Answer, EditAnswer, Edited, Refusal};
 use crate::breaking::Setting;
 use crate::compose::{break_into_lines, compose, Composition};
-use crate::records::{decode_all, spliced, Record, MAX_RECORDS, RECORD_WORDS};
+use crate::records::{decode_all, first_unlisted, spliced, Record, MAX_RECORDS, RECORD_WORDS};
 use crate::redone::{redone_lines, Lines};
 
 /// The most slots a sheet may have.
@@ -96,7 +96,7 @@ pub fn read(sheet: &[u32], caller: u32, slot: u32) -> Range<usize> {
 }
 
 /// The words of a slot that holds these records, composed from them alone. It is refused as the
-/// edit of a fresh slot is that inserts them all: with 8, 9 or 10, or with 4, 6 or 7 where no such
+/// edit of a fresh slot is that inserts them all: with 8, 12, 9 or 10, or with 4, 6 or 7 where no such
 /// edit or slot can be.
 pub fn slot_words(clinic: u32, measure: u32, indent: u32, records: &[u32]) -> Result<Vec<u32>, EditAnswer> {
     let setting = Setting { measure, indent };
@@ -162,7 +162,7 @@ fn try_edit(sheet: &mut [u32], edit: Edit) -> Result<Edited, Refusal> {
     let head = Head::of(slot);
     check_caller(edit.caller, head.clinic)?; // 3
     let (stored, old_lines) = stored_text(slot, &head).ok_or(Refusal::Stored)?; // 4
-    let records = spliced(&stored, edit.place, edit.deleted, edit.inserted)?; // 5 to 8
+    let records = spliced(&stored, edit.place, edit.deleted, edit.inserted)?; // 5 to 8 and 12
     let composition = compose(&records, head.setting)?; // 9 and 10
     write(slot, &records, &composition);
     Ok(edited(&old_lines, &composition, &edit))
@@ -197,6 +197,9 @@ fn stored_text(slot: &Slot, head: &Head) -> Option<(Vec<Record>, Lines)> {
     let (words, _) = slot[RECORDS_AT..PLACES_AT].as_chunks::<RECORD_WORDS>();
     let stored = words.get(..head.record_count as usize)?;
     let records = decode_all(stored).ok()?;
+    if first_unlisted(&records).is_some() {
+        return None;
+    }
     let lines = break_into_lines(&records, head.setting).ok()?;
     Some((records, lines))
 }

@@ -1,0 +1,96 @@
+//! Which characters a class has (document 02, request 04): those of JLReq Annex A, source document 003, and
+//! for class 19 besides the characters of the property Unified_Ideograph of Unicode 15.1.
+
+mod annex_a;
+
+use std::sync::LazyLock;
+
+pub use annex_a::LISTS;
+
+/// The class that every ideograph has.
+const IDEOGRAPHIC: u32 = 19;
+/// The class that an imported character gets whenever that list has it.
+const WESTERN: u32 = 27;
+
+/// A stretch of code points that are unified ideographs throughout.
+#[derive(Debug, Clone, Copy)]
+pub struct Block {
+    /// What Unicode calls it.
+    pub name: &'static str,
+    /// Its first ideograph.
+    pub first: u32,
+    /// Its last ideograph in Unicode 15.1, which need not be the block's last code point.
+    pub last: u32,
+}
+
+/// The blocks of unified ideographs. The one that nearly every ideograph of a text stands in is looked at first.
+pub const BLOCKS: [Block; 10] = [
+    Block::new("CJK Unified Ideographs (URO)", 0x4E00, 0x9FFF),
+    Block::new("Extension A", 0x3400, 0x4DBF),
+    Block::new("Extension B", 0x2_0000, 0x2_A6DF),
+    Block::new("Extension C", 0x2_A700, 0x2_B739),
+    Block::new("Extension D", 0x2_B740, 0x2_B81D),
+    Block::new("Extension E", 0x2_B820, 0x2_CEA1),
+    Block::new("Extension F", 0x2_CEB0, 0x2_EBE0),
+    Block::new("Extension I", 0x2_EBF0, 0x2_EE5D),
+    Block::new("Extension G", 0x3_0000, 0x3_134A),
+    Block::new("Extension H", 0x3_1350, 0x3_23AF),
+];
+
+/// The twelve unified ideographs of the block CJK Compatibility Ideographs, whose others are not.
+pub const COMPATIBILITY: [char; 12] =
+    ['﨎', '﨏', '﨑', '﨓', '﨔', '﨟', '﨡', '﨣', '﨤', '﨧', '﨨', '﨩'];
+
+/// Below the first ideograph a table has each code point's classes. From there on Annex A lists only an
+/// ideograph, 仝, as 19.
+const FIRST_IDEOGRAPH: usize = 0x3400;
+
+/// The classes whose lists have a code point, class c as bit c.
+type Classes = u32;
+
+static CLASSES: LazyLock<Box<[Classes; FIRST_IDEOGRAPH]>> = LazyLock::new(|| {
+    let mut table = Box::new([0; FIRST_IDEOGRAPH]);
+    for (class, characters) in LISTS {
+        for character in characters.chars() {
+            if let Some(classes) = table.get_mut(character as usize) {
+                *classes |= 1 << class;
+            }
+        }
+    }
+    table
+});
+
+/// The classes whose lists have this code point.
+fn classes(code_point: u32) -> Classes {
+    match CLASSES.get(code_point as usize) {
+        Some(&classes) => classes,
+        None => Classes::from(is_unified_ideograph(code_point)) << IDEOGRAPHIC,
+    }
+}
+
+/// Whether the list of this class has this code point. Numbers that are none of the eighteen have no list.
+pub fn in_list(class: u32, code_point: u32) -> bool {
+    class < Classes::BITS && classes(code_point) >> class & 1 == 1
+}
+
+/// The class that a character gets on import: 27 if that list has it, otherwise the lowest-numbered list's,
+/// if there is one.
+pub fn class_of(code_point: u32) -> Option<u32> {
+    let classes = classes(code_point);
+    if classes >> WESTERN & 1 == 1 {
+        return Some(WESTERN);
+    }
+    (classes != 0).then(|| classes.trailing_zeros())
+}
+
+/// Whether Unicode 15.1 gives this code point the property Unified_Ideograph.
+pub fn is_unified_ideograph(code_point: u32) -> bool {
+    BLOCKS.iter().any(|block| (block.first..=block.last).contains(&code_point))
+        || char::from_u32(code_point).is_some_and(|character| COMPATIBILITY.contains(&character))
+}
+
+impl Block {
+    const fn new(name: &'static str, first: u32, last: u32) -> Block {
+        Block { name, first, last }
+    }
+}
