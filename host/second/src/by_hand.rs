@@ -17,8 +17,8 @@ pub struct Case {
     pub records: &'static [Words],
     /// Its measure.
     pub measure: u32,
-    /// Its lines, or the place of answer 10.
-    lines: Result<&'static [Line], usize>,
+    /// Its lines, or why it is refused.
+    lines: Result<&'static [Line], Refusal>,
 }
 
 /// An ideograph, the paper's K.
@@ -37,6 +37,16 @@ const CELSIUS: Words = ['℃' as u32, 13, 80, 80, 0, 0];
 /// A digit as wide as an ideograph, of class 19, and the same with a ruby character.
 const WIDE_FIVE: Words = ['5' as u32, 19, 80, 80, 0, 0];
 const GROUPED_FIVE: Words = ['5' as u32, 19, 80, 80, 1, 1];
+
+/// A record of size 80 and as wide.
+const fn of_class(character: char, class: u32) -> Words {
+    [character as u32, class, 80, 80, 0, 0]
+}
+
+/// A bracket of size 80, which is half as wide.
+const fn bracket(character: char, class: u32) -> Words {
+    [character as u32, class, 80, 40, 0, 0]
+}
 
 /// A digit or letter of class 27.
 const fn letter(character: char) -> Words {
@@ -103,9 +113,35 @@ pub const FIVE_PERCENT: [Case; 13] = [
     Case::new("漢10%, 1 too wide", &[K, letter('1'), letter('0'), PERCENT], 159, Err(1)),
 ];
 
+/// A comma marked as class 19, which opened a line.
+const COMMA_AS_19: Words = ['、' as u32, 19, 80, 80, 0, 0];
+/// A record that breaks its own rules, of a class whose list lacks its code point too.
+const NARROW_COMMA_AS_19: Words = ['、' as u32, 19, 80, 40, 0, 0];
+
+/// Request 04, "Classes checked against the published lists".
+pub const LISTED: [Case; 14] = [
+    Case::refused("、 as 19", &[COMMA_AS_19], 400, Refusal::NotListed(0)),
+    Case::refused("the comma that opened a line", &[K, K, COMMA_AS_19, K], 160, Refusal::NotListed(2)),
+    Case::new("漢、", &[K, COMMA], 400, Ok(&[(&[0, 80], 120, 3)])),
+    Case::refused("漢 as 15", &[of_class('漢', 15)], 400, Refusal::NotListed(0)),
+    Case::new("( as 1, ) as 27", &[bracket('(', 1), letter(')')], 400, Ok(&[(&[0, 40], 80, 3)])),
+    Case::refused("（ as 1", &[bracket('（', 1)], 400, Refusal::NotListed(0)),
+    Case::new("A as 19 and as 27", &[of_class('A', 19), WESTERN], 400, Ok(&[(&[0, 100], 140, 3)])),
+    Case::refused("５ as 27", &[letter('５')], 400, Refusal::NotListed(0)),
+    Case::new("仝Ⅻ as 19", &[of_class('仝', 19), of_class('Ⅻ', 19)], 400, Ok(&[(&[0, 80], 160, 3)])),
+    Case::refused("U+2015, of a remark, as 8", &[of_class('\u{2015}', 8)], 400, Refusal::NotListed(0)),
+    Case::refused("8 before 12", &[COMMA_AS_19, NARROW_COMMA_AS_19], 400, Refusal::Record(1)),
+    Case::refused("12 before 9", &[GROUPED, RUBY_K, COMMA_AS_19], 400, Refusal::NotListed(2)),
+    Case::refused("12 before 10", &[K, COMMA_AS_19], 79, Refusal::NotListed(1)),
+    Case::new("𠮷, of extension B", &[of_class('𠮷', 19)], 80, Ok(&[(&[0], 80, 3)])),
+];
+
 /// All cases, by the paper that asks for them.
-pub const PAPERS: [(&str, &[Case]); 2] =
-    [("document 01", &CASES), ("document 02, request 01", &FIVE_PERCENT)];
+pub const PAPERS: [(&str, &[Case]); 3] = [
+    ("document 01", &CASES),
+    ("document 02, request 01", &FIVE_PERCENT),
+    ("document 02, request 04", &LISTED),
+];
 
 /// Records one after another, so many of each.
 type Text = &'static [(usize, Words)];
@@ -208,13 +244,22 @@ fn words(text: Text) -> Vec<u32> {
 }
 
 impl Case {
+    /// A case with these lines, or refused with 10 and this place.
     const fn new(
         name: &'static str,
         records: &'static [Words],
         measure: u32,
         lines: Result<&'static [Line], usize>,
     ) -> Case {
+        let lines = match lines {
+            Ok(lines) => Ok(lines),
+            Err(at) => Err(Refusal::NoBreaking(at)),
+        };
         Case { name, records, measure, lines }
+    }
+
+    const fn refused(name: &'static str, records: &'static [Words], measure: u32, refusal: Refusal) -> Case {
+        Case { name, records, measure, lines: Err(refusal) }
     }
 
     /// What the edit answers that inserts the records into a fresh slot of this clinic, and every
@@ -224,7 +269,7 @@ impl Case {
         slot[..3].copy_from_slice(&[clinic, self.measure, 0]);
         let lines = match self.lines {
             Ok(lines) => lines,
-            Err(at) => return (Refusal::NoBreaking(at).into(), slot),
+            Err(refusal) => return (refusal.into(), slot),
         };
         // Where there were no lines, all are composed anew.
         let answer = EditAnswer::from(Ok(Edited { lines: lines.len(), redone: lines.len() }));

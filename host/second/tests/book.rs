@@ -15,7 +15,7 @@ struct Run {
     sheet: Vec<u32>,
     book: Book,
     /// How often set-up and edit answered each number.
-    numbers: [u32; 12],
+    numbers: [u32; 13],
     /// How often read did.
     reads: [u32; 5],
 }
@@ -25,7 +25,7 @@ impl Run {
         let mut random = Random::new(seed);
         let slots = 1 + random.below(5) as usize;
         let sheet = (0..slots * SLOT_WORDS).map(|_| random.next() as u32).collect();
-        Run { random, sheet, book: Book::new(), numbers: [0; 12], reads: [0; 5] }
+        Run { random, sheet, book: Book::new(), numbers: [0; 13], reads: [0; 5] }
     }
 
     fn slots(&self) -> usize {
@@ -113,7 +113,7 @@ fn fresh_of(slot: &[u32]) -> Vec<u32> {
 #[test]
 fn the_book_answers_as_the_calls_and_knows_every_word() {
     println!("seeds {SEEDS:?}, {CALLS} calls each");
-    let (mut numbers, mut reads) = ([0; 12], [0; 5]);
+    let (mut numbers, mut reads) = ([0; 13], [0; 5]);
     for seed in SEEDS {
         let mut run = Run::new(seed);
         while !run.book.is_set_up() {

@@ -112,7 +112,7 @@ fn gives_slot_words(random: &mut Random) -> bool {
             true
         }
         Err(answer) => {
-            assert!(matches!(answer.number, 4 | 6..=10));
+            assert!(matches!(answer.number, 4 | 6..=10 | 12));
             false
         }
     }

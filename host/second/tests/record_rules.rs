@@ -2,14 +2,15 @@
 
 mod common;
 
-use common::{compose, edit, flat, grouped, k, one_slot, own, plain, record, refused, Words};
+use common::{compose, edit, flat, grouped, k, listed, one_slot, own, plain, record, refused, Words};
 
 const BIG: u32 = u32::MAX;
 
-/// Whether a record keeps its own rules: otherwise it is named by answer 8.
+/// Whether a record keeps its own rules: otherwise it is named by answer 8. One that keeps them may yet be named by
+/// answer 12, which comes later.
 fn keeps_rules(record: Words) -> bool {
     match compose(&[k(), record, k()], 1_000_000, 0) {
-        (0, 1) => true,
+        (0, 1) | (12, 1) => true,
         (8, 1) => false,
         other => panic!("{other:?} for {record:?}"),
     }
@@ -69,7 +70,7 @@ fn number_8_group_and_ruby() {
         (14, 1, 1, false),
         (27, 1, 1, false),
     ] {
-        let record = [0x3042, class, 80, 80, group, ruby_count];
+        let record = [listed(class), class, 80, 80, group, ruby_count];
         assert_eq!(keeps_rules(record), kept, "{class} {group} {ruby_count}");
     }
 }

@@ -1,9 +1,9 @@
-//! Every refusal but 8 and 9 with its place, and the order in which they are checked (document 01, "Refusal
+//! Every refusal but 8, 12 and 9 with its place, and the order in which they are checked (document 01, "Refusal
 //! numbers, in the order they are checked").
 
 mod common;
 
-use common::{compose, edit, flat, grouped, k, one_slot, own, plain, refused, CLINIC};
+use common::{compose, edit, flat, grouped, k, one_slot, own, plain, refused, CLINIC, COMMA_AS_19};
 use second::{read, read_number, set_up, slot_words, Answer, Edit, EditAnswer};
 
 const SLOT: usize = 2_824;
@@ -72,8 +72,8 @@ fn set_up_number_11() {
 #[test]
 fn each_number_comes_before_the_next() {
     // A call with every fault; each step mends the one just answered.
-    let broken = [grouped(16, 1, 3), grouped(8, 1, 3), plain(19, 4_000), [0; 6]];
-    let mut long = flat(&broken).repeat(75);
+    let broken = [grouped(16, 1, 3), grouped(8, 1, 3), plain(19, 4_000), COMMA_AS_19, [0; 6]];
+    let mut long = flat(&broken).repeat(60);
     long.push(0);
     let every_fault = Edit { caller: 0, slot: 2, ..own(9, BIG, &long) };
     let mut sheet = vec![0; 2 * SLOT + 1];
@@ -92,7 +92,8 @@ fn each_number_comes_before_the_next() {
     assert_eq!(refused(&mut sheet, own(1, 0, &long)), (6, 0));
     long.pop();
     assert_eq!(refused(&mut sheet, own(1, 0, &long)), (7, 0));
-    assert_eq!(refused(&mut sheet, own(1, 0, &flat(&broken))), (8, 4));
+    assert_eq!(refused(&mut sheet, own(1, 0, &flat(&broken))), (8, 5));
+    assert_eq!(refused(&mut sheet, own(1, 0, &flat(&broken[..4]))), (12, 4));
     assert_eq!(refused(&mut sheet, own(1, 0, &flat(&broken[..3]))), (9, 2));
     assert_eq!(refused(&mut sheet, own(1, 0, &flat(&broken[1..3]))), (10, 2));
     assert_eq!(edit(&mut sheet, own(1, 0, &flat(&broken[1..2]))), (0, 1));
@@ -140,9 +141,21 @@ fn number_4() {
     let mut sound = one_slot(800, 100);
     let text = [k(), grouped(80, 1, 2), grouped(80, 1, 2)];
     assert_eq!(edit(&mut sound, own(0, 0, &flat(&text))), (0, 1));
-    // Measure, indent, count, a record's own rules, a group rule, a wide run.
-    let damages =
-        [(1, 7), (1, 1_000_001), (2, 800), (3, 257), (3, BIG), (3, 4), (9, 17), (8 + 12 + 5, 3), (1, 159)];
+    // Measure, indent, count, a record's own rules, its class's list, a group rule, a wide run.
+    let damages = [
+        (1, 7),
+        (1, 1_000_001),
+        (2, 800),
+        (3, 257),
+        (3, BIG),
+        (3, 4),
+        (9, 17),
+        (8, u32::from('、')),
+        (9, 15),
+        (8 + 12, u32::from('、')),
+        (8 + 12 + 5, 3),
+        (1, 159),
+    ];
     for (at, word) in damages {
         let mut sheet = sound.clone();
         sheet[at] = word;
@@ -219,6 +232,7 @@ fn slot_words_answers_as_the_edit_of_a_fresh_slot() {
     assert_eq!(slot_words(1, 80, 0, &[0; 7]), Err(refusal(6, 0)));
     assert_eq!(slot_words(1, 80, 0, &[0; 6 * 257]), Err(refusal(7, 0)));
     assert_eq!(slot_words(1, 80, 0, &[0; 6]), Err(refusal(8, 0)));
+    assert_eq!(slot_words(1, 80, 0, &COMMA_AS_19), Err(refusal(12, 0)));
     assert_eq!(slot_words(1, 80, 0, &flat(&[grouped(8, 1, 1); 17])), Err(refusal(9, 16)));
     assert_eq!(slot_words(1, 79, 0, &flat(&[k()])), Err(refusal(10, 0)));
     let fresh = slot_words(1, 80, 0, &[]);

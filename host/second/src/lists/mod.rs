@@ -45,6 +45,28 @@ pub const COMPATIBILITY: [char; 12] =
 /// ideograph, 仝, as 19.
 const FIRST_IDEOGRAPH: usize = 0x3400;
 
+/// A character of each class that is usual in it, to make texts with.
+pub const USUAL: [(u32, char); 18] = [
+    (1, '「'),
+    (2, '」'),
+    (3, '‐'),
+    (4, '!'),
+    (5, '・'),
+    (6, '。'),
+    (7, '、'),
+    (8, '—'),
+    (9, '々'),
+    (10, 'ー'),
+    (11, 'ゃ'),
+    (12, '¥'),
+    (13, '%'),
+    (14, '\u{3000}'),
+    (15, 'あ'),
+    (16, 'ア'),
+    (19, '漢'),
+    (27, 'A'),
+];
+
 /// The classes whose lists have a code point, class c as bit c.
 type Classes = u32;
 
@@ -66,6 +88,17 @@ fn classes(code_point: u32) -> Classes {
         Some(&classes) => classes,
         None => Classes::from(is_unified_ideograph(code_point)) << IDEOGRAPHIC,
     }
+}
+
+/// The characters that Annex A lists for this class, in its order; none where the number has no list.
+pub fn annex_a(class: u32) -> impl Iterator<Item = char> {
+    let list = LISTS.iter().find(|(of, _)| *of == class);
+    list.map_or("", |(_, characters)| characters).chars()
+}
+
+/// A usual character of this class, if the number has a list.
+pub fn usual(class: u32) -> Option<char> {
+    USUAL.iter().find(|(of, _)| *of == class).map(|(_, character)| *character)
 }
 
 /// Whether the list of this class has this code point. Numbers that are none of the eighteen have no list.

@@ -3,6 +3,7 @@
 // Each test file uses a part of these.
 #![allow(dead_code)]
 
+use second::lists::{annex_a, usual, BLOCKS};
 use second::sheet::SLOT_WORDS;
 use second::Edit;
 
@@ -10,10 +11,18 @@ pub type Words = [u32; 6];
 
 pub const CLINIC: u32 = 7;
 
+/// A character of the class's list; of a number that has none, any.
+pub fn listed(class: u32) -> u32 {
+    usual(class).unwrap_or('漢').into()
+}
+
 /// A record outside groups.
 pub fn record(class: u32, size: u32, advance: u32) -> Words {
-    [0x3042, class, size, advance, 0, 0]
+    [listed(class), class, size, advance, 0, 0]
 }
+
+/// A record that keeps its own rules, of a class whose list lacks its code point.
+pub const COMMA_AS_19: Words = ['、' as u32, 19, 80, 80, 0, 0];
 
 /// A record outside groups with the advance that its class asks for, or half the size.
 pub fn plain(class: u32, size: u32) -> Words {
@@ -113,7 +122,23 @@ impl Random {
     }
 }
 
-/// Random records that keep their own rules; groups among them.
+/// A random character of the class's list: of all that Annex A has, or for class 19 of all blocks; of class 27
+/// mostly about the digits.
+fn random_character(random: &mut Random, class: u32) -> u32 {
+    match class {
+        19 if random.once_in(2) => {
+            let block = random.one_of(&BLOCKS);
+            block.first + random.below(block.last - block.first + 1)
+        }
+        27 if !random.once_in(4) => random.one_of(&['/', '0', '5', '9', ':', 'a']).into(),
+        _ => {
+            let nth = random.below(annex_a(class).count() as u32);
+            annex_a(class).nth(nth as usize).expect("fewer than there are").into()
+        }
+    }
+}
+
+/// Random records that keep their own rules and stand in their classes' lists; groups among them.
 pub fn random_records(random: &mut Random, count: u32) -> Vec<Words> {
     const CLASSES: [u32; 18] = [1, 2, 3, 4, 5, 6, 7, 8, 9, 10, 11, 12, 13, 14, 15, 16, 19, 27];
     let mut records = Vec::new();
@@ -128,9 +153,8 @@ pub fn random_records(random: &mut Random, count: u32) -> Vec<Words> {
             let common = random.once_in(2);
             let class = if common { 19 } else { random.one_of(&CLASSES) };
             let mut record = plain(class, size);
-            record[0] += random.below(2);
+            record[0] = random_character(random, class);
             if class == 27 {
-                record[0] = random.one_of(&[0x2F, 0x30, 0x35, 0x39, 0x3A, 0x61]);
                 record[3] = 1 + random.below(2 * size);
             }
             records.push(record);
