@@ -7,6 +7,8 @@ use sheet::Part;
 use sheet::RubyPlace;
 use sheet::SlotNumber;
 ghost use mathlib.Core.Path.{_≡_};
+ghost use mathlib.Core.Bool.{cond};
+ghost use Rattle.lists.specs.Lists.{inList, classOf};
 ghost use Rattle.rules.specs.Groups.{rubyPlace};
 ghost use Rattle.rules.specs.Refusals.{says, editSays, setUp, edit, readNumber, readPart};
 
@@ -65,4 +67,24 @@ pub extern "C" fn gelumbrio_ruby_place(
     ensures { λ r. ⌜ (r .number, r .offset) ≡ rubyPlace «base_advance» «ruby_count» size k ⌝ }
 {
     sheet::ruby_place(base_advance, ruby_count, size, k)
+}
+
+// Whether the list of a class has a code point: 1 or 0.
+#[no_mangle]
+pub extern "C" fn gelumbrio_in_list(class_number: u32, code: u32) -> u32
+    ensures { λ r. ⌜ r ≡ cond (inList «class_number» code) 1 0 ⌝ }
+{
+    if lists::in_list(class_number, code) {
+        1
+    } else {
+        0
+    }
+}
+
+// The class that a code point gets, or 0 where no list has it.
+#[no_mangle]
+pub extern "C" fn gelumbrio_class_of(code: u32) -> u32
+    ensures { λ r. ⌜ r ≡ classOf code ⌝ }
+{
+    lists::class_of(code)
 }
