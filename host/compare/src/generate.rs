@@ -1,6 +1,9 @@
 //! Random records, paragraphs and calls.
 
+use std::sync::LazyLock;
+
 use second::book::Book;
+use second::lists::{self, BLOCKS, COMPATIBILITY};
 
 use crate::calls::{Call, Words};
 use crate::layout::{CLASSES, LARGEST_MEASURE, SLOT};
@@ -20,9 +23,48 @@ pub fn usual_advance(class: u32, size: u32) -> u32 {
     }
 }
 
+/// A character that is usual in this class, which is one of the eighteen.
+pub fn usual(class: u32) -> u32 {
+    lists::usual(class).expect("one of the eighteen classes").into()
+}
+
 /// A record outside groups.
 pub fn plain(class: u32, size: u32) -> Words {
-    [0x3042, class, size, usual_advance(class, size), 0, 0]
+    [usual(class), class, size, usual_advance(class, size), 0, 0]
+}
+
+/// The characters that Annex A lists for this class, in its order.
+pub fn annex_a(class: u32) -> &'static [u32] {
+    static LISTS: LazyLock<[Vec<u32>; 28]> =
+        LazyLock::new(|| std::array::from_fn(|class| lists::annex_a(class as u32).map(u32::from).collect()));
+    &LISTS[class as usize]
+}
+
+/// Another character of this class than this one, if its list has one.
+pub fn another(class: u32, code_point: u32) -> Option<u32> {
+    annex_a(class).iter().copied().find(|&other| other != code_point)
+}
+
+/// A random character of this class. Annex A's first and last come up often.
+fn listed(random: &mut Random, class: u32) -> u32 {
+    let characters = annex_a(class);
+    match random.below(8) {
+        0 => characters[0],
+        1 => characters[characters.len() - 1],
+        2..=6 if class == 19 => ideograph(random),
+        _ => random.one_of(characters),
+    }
+}
+
+/// A unified ideograph, often at the end of a block.
+fn ideograph(random: &mut Random) -> u32 {
+    let block = random.one_of(&BLOCKS);
+    match random.below(6) {
+        0 => block.first,
+        1 => block.last,
+        2 => random.one_of(&COMPATIBILITY).into(),
+        _ => random.between(block.first, block.last),
+    }
 }
 
 /// All texts over an alphabet of up to this many records, the shortest first.
@@ -93,10 +135,11 @@ impl Style {
             _ => usual_advance(class, size),
         };
         let code_point = match class {
-            8 => 0x2014 + random.below(2),
+            // few, so that neighbours are often alike
+            8 if !random.once_in(4) => random.one_of(&['—', '‥']).into(),
             // the digits and a few on either side
-            27 => random.between(0x2C, 0x3D),
-            _ => random.between(0x3041, 0x3096),
+            27 if !random.once_in(4) => random.between(0x2C, 0x3D),
+            _ => listed(random, class),
         };
         [code_point, class, size, advance, 0, 0]
     }
@@ -108,10 +151,10 @@ impl Style {
         let group = if random.once_in(4) { 65_535 } else { random.between(1, 40) };
         let ruby_count = if random.once_in(6) { random.between(1, 64) } else { random.between(1, 6) };
         let count = if random.once_in(6) { random.between(1, 16) } else { random.between(1, 3) };
-        vec![[0x6F22, class, size, size, group, ruby_count]; count as usize]
+        (0..count).map(|_| [listed(random, class), class, size, size, group, ruby_count]).collect()
     }
 
-    /// A paragraph of this many records, each keeping its own rules.
+    /// A paragraph of this many records, each keeping its own rules and of its class's list.
     pub fn paragraph(&self, random: &mut Random, count: u32) -> Vec<u32> {
         let mut records: Vec<Words> = Vec::with_capacity(count as usize + 16);
         while records.len() < count as usize {
@@ -126,17 +169,24 @@ impl Style {
     }
 }
 
-/// Spoils one word, which may or may not break a rule.
+/// Spoils one word, which may or may not break a rule, or take a code point or a class out of its list.
 pub fn spoil(random: &mut Random, words: &mut [u32]) {
     if !words.is_empty() {
         let at = random.below(words.len() as u32) as usize;
-        words[at] = match random.below(4) {
+        words[at] = match random.below(5) {
             0 => random.one_of(&EDGES),
             1 => random.one_of(&[0xD7FF, 0xD800, 0xDFFF, 0xE000, 0x10_FFFF, 0x11_0000]),
             2 => words[at].wrapping_add(1),
+            3 => of_any_class(random),
             _ => words[at].wrapping_sub(1),
         };
     }
+}
+
+/// A random character of some class.
+fn of_any_class(random: &mut Random) -> u32 {
+    let class = random.one_of(&CLASSES);
+    listed(random, class)
 }
 
 /// Makes the calls of a sequence, most of them accepted, refusals of every number among them.
@@ -263,6 +313,7 @@ impl Caller {
         let among = random.one_of(&[8, 8, 60, SLOT as u32]);
         let at = slot as usize * SLOT + random.below(among) as usize;
         self.damaged = Some(slot);
-        Call::Damage { at, word: random.one_of(&EDGES) }
+        let word = if random.once_in(3) { of_any_class(random) } else { random.one_of(&EDGES) };
+        Call::Damage { at, word }
     }
 }

@@ -7,7 +7,7 @@ use second::{Answer, Edit, EditAnswer, RubyPlace};
 /// What the second program is called.
 pub const SECOND: &str = "the second program";
 
-/// A program that answers document 01's calls on raw words.
+/// A program that answers the calls of documents 01 and 02 on raw words.
 pub trait Program {
     /// What it is called where a comparison tells of it.
     fn name(&self) -> String;
@@ -26,6 +26,12 @@ pub trait Program {
 
     /// Ruby place.
     fn ruby_place(&self, base_advance: u32, ruby_count: u32, size: u32, k: u32) -> RubyPlace;
+
+    /// Whether the list of this class has this code point: 1 or 0.
+    fn in_list(&self, class: u32, code_point: u32) -> u32;
+
+    /// The class that the lists give this code point, or 0.
+    fn class_of(&self, code_point: u32) -> u32;
 }
 
 /// The second program.
@@ -55,6 +61,14 @@ impl Program for Second {
 
     fn ruby_place(&self, base_advance: u32, ruby_count: u32, size: u32, k: u32) -> RubyPlace {
         second::ruby_place(base_advance, ruby_count, size, k)
+    }
+
+    fn in_list(&self, class: u32, code_point: u32) -> u32 {
+        second::in_list(class, code_point).into()
+    }
+
+    fn class_of(&self, code_point: u32) -> u32 {
+        second::class_of(code_point).unwrap_or(0)
     }
 }
 
@@ -91,6 +105,14 @@ impl Program for Proved {
     fn ruby_place(&self, base_advance: u32, ruby_count: u32, size: u32, k: u32) -> RubyPlace {
         let place = gelumbrio::raw::ruby_place(base_advance, ruby_count, size, k);
         RubyPlace { number: place.number, offset: place.offset }
+    }
+
+    fn in_list(&self, class: u32, code_point: u32) -> u32 {
+        gelumbrio::raw::in_list(class, code_point)
+    }
+
+    fn class_of(&self, code_point: u32) -> u32 {
+        gelumbrio::raw::class_of(code_point)
     }
 }
 

@@ -47,6 +47,10 @@ pub enum Outcome {
     ReadRefused(u32),
     /// Ruby place, with this number.
     RubyPlace(u32),
+    /// Whether a class's list has a code point: 1 or 0.
+    InList(u32),
+    /// The class that the lists give a code point, or 0.
+    ClassOf(u32),
     /// A line that is not the final one, brought to the measure so.
     Line(Way),
     /// A final line, brought to the measure so.
@@ -108,12 +112,17 @@ pub struct Tally(BTreeMap<Outcome, u64>);
 impl Tally {
     /// Counts an outcome.
     pub fn count(&mut self, outcome: Outcome) {
-        *self.0.entry(outcome).or_default() += 1;
+        self.count_times(outcome, 1);
+    }
+
+    /// Counts an outcome that came up so many times.
+    pub fn count_times(&mut self, outcome: Outcome, times: u64) {
+        *self.0.entry(outcome).or_default() += times;
     }
 
     /// Counts another tally in.
     pub fn add(&mut self, other: &Tally) {
-        other.0.iter().for_each(|(outcome, count)| *self.0.entry(*outcome).or_default() += count);
+        other.0.iter().for_each(|(outcome, count)| self.count_times(*outcome, *count));
     }
 
     /// All calls that were answered.

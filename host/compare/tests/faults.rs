@@ -1,9 +1,12 @@
 //! Every planted fault is found, and the case that shows it is made small.
 
-use compare::comparisons::{digits, gaps, pairs, paragraphs, redone, sequences, short, Comparison, ALL};
+use compare::comparisons::{
+    digits, gaps, junk, lists, pairs, paragraphs, redone, sequences, short, Comparison, ALL,
+};
 use compare::failure::{Failure, NOT_SEEN_AGAIN};
 use compare::faults::{
-    Fault, Misreading, CLASSES_AS, DIGITS, FIELDS, MISREADINGS, NARROW_FIELDS, SINGLE, TABLES,
+    wrong_lists, Fault, Misreading, ASKED_WRONGLY, CLASSES_AS, DIGITS, FIELDS, LOOKUPS, MISREADINGS,
+    NARROW_FIELDS, SINGLE, TABLES,
 };
 use compare::generate::plain;
 use compare::layout::{CLASSES, LINES};
@@ -111,6 +114,26 @@ fn the_redone_lines_read_rightly() {
     for comparison in ALL {
         assert!(comparison(&sound, Scope::Brief).is_ok());
     }
+}
+
+/// Each shows in a lookup, and in what an edit answers.
+#[test]
+fn wrong_lists_are_found() {
+    let faults: Vec<Fault> = wrong_lists().into_iter().map(Fault::Listed).collect();
+    each_is_found(&faults, &[lists::lookups], 1);
+    each_is_found(&faults, &[lists::edits], 3);
+    each_is_found(&LOOKUPS.map(Fault::Listed), &[lists::lookups], 1);
+}
+
+#[test]
+fn lists_asked_wrongly() {
+    each_is_found(&ASKED_WRONGLY.map(Fault::Listed), &[lists::edits], 4);
+}
+
+/// They show among all other calls too.
+#[test]
+fn lists_asked_wrongly_in_sequences_and_junk() {
+    each_is_found(&ASKED_WRONGLY.map(Fault::Listed), &[sequences::compare, junk::compare], 8);
 }
 
 #[test]

@@ -6,6 +6,6 @@ use compare::tally::Outcome::{self, Edit, SetUp};
 fn limits() {
     let tally = compare::full("limits", compare::comparisons::limits::compare);
     tally.assert_seen(1, [0, 1, 11].map(SetUp));
-    tally.assert_seen(1, (0..=10).map(Edit));
+    tally.assert_seen(1, (0..=10).chain([12]).map(Edit));
     tally.assert_seen(1, Outcome::READS);
 }

@@ -7,6 +7,6 @@ use compare::tally::Outcome::Edit;
 fn paragraphs() {
     let tally = compare::full("paragraphs", compare::comparisons::paragraphs::compare);
     if !one_seed_is_picked() {
-        tally.assert_seen(100, [0, 8, 9, 10].map(Edit));
+        tally.assert_seen(100, [0, 8, 9, 10, 12].map(Edit));
     }
 }

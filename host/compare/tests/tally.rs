@@ -26,14 +26,14 @@ fn a_read_that_never_came_up_fails_the_test() {
     without(ReadRefused(4)).assert_seen(1, Outcome::READS);
 }
 
-/// No read of the papers' cases is refused. C1, and those whose edit is refused with 10, C10, C11 and
-/// two of request 01, leave a slot without lines.
+/// No read of the papers' cases is refused. C1, and those whose edit is refused, C10, C11, two of request
+/// 01 and nine of request 04, leave a slot without lines.
 #[test]
 fn reads_are_told_apart_by_their_lines() {
     let tally = cases::compare(&Second, Scope::Full).unwrap();
     assert_eq!(tally.rare(1, Outcome::READS), [1, 2, 3, 4].map(ReadRefused));
-    assert_eq!(tally.rare(6, [ReadLines, ReadNoLines]), [ReadNoLines]);
-    assert_eq!(tally.rare(5, [ReadLines, ReadNoLines]), []);
+    assert_eq!(tally.rare(15, [ReadLines, ReadNoLines]), [ReadNoLines]);
+    assert_eq!(tally.rare(14, [ReadLines, ReadNoLines]), []);
 }
 
 #[test]

@@ -58,7 +58,39 @@ pub fn ruby_place(base_advance: u32, ruby_count: u32, size: u32, k: u32) -> Resu
     match place.number {
         0 => Ok(place.offset),
         8 => Err(Refusal::Ruby),
-        number => Err(Refusal::Unlisted { number, place: 0 }),
+        number => Err(Refusal::Unknown { number, place: 0 }),
+    }
+}
+
+/// Whether the published list of this class has this character. A record needs it: an edit refuses one whose
+/// class's list lacks its character, with [`Refusal::NotListed`].
+///
+/// The lists are those of JLReq Annex A; class 19's has every unified ideograph of Unicode 15.1 besides. A character
+/// may stand in more than one, and in none:
+///
+/// ```
+/// use gelumbrio::in_list;
+///
+/// assert!(in_list(7, '、') && !in_list(19, '、'));
+/// assert!(in_list(1, '(') && in_list(27, '('));
+/// assert!(!in_list(1, '（'));
+/// ```
+pub fn in_list(class: u32, character: char) -> bool {
+    raw::in_list(class, character.into()) != 0
+}
+
+/// The class that the published lists give this character: 27 if that list has it, otherwise the lowest-numbered
+/// list's, if one has it.
+///
+/// ```
+/// use gelumbrio::class_of;
+///
+/// assert_eq!(['漢', '、', '(', '（'].map(class_of), [Some(19), Some(7), Some(27), None]);
+/// ```
+pub fn class_of(character: char) -> Option<u32> {
+    match raw::class_of(character.into()) {
+        0 => None,
+        class => Some(class),
     }
 }
 

@@ -85,6 +85,10 @@ extern "C" {
     fn gelumbrio_read(sheet: *const u32, sheet_length: usize, caller: Clinic, slot: SlotNumber) -> Part;
 
     fn gelumbrio_ruby_place(base_advance: u32, ruby_count: u32, size: u32, k: u32) -> RubyPlace;
+
+    fn gelumbrio_in_list(class_number: u32, code: u32) -> u32;
+
+    fn gelumbrio_class_of(code: u32) -> u32;
 }
 
 /// Set-up: gives each slot its clinic, measure and indent and empties it.
@@ -147,4 +151,16 @@ pub fn read(sheet: &[u32], caller: Clinic, slot: SlotNumber) -> Range<usize> {
 pub fn ruby_place(base_advance: u32, ruby_count: u32, size: u32, k: u32) -> RubyPlace {
     // SAFETY: numbers go in and come out; no memory is shared.
     unsafe { gelumbrio_ruby_place(base_advance, ruby_count, size, k) }
+}
+
+/// Whether the published list of this class has this code point: 1 or 0. Numbers that are no class have no list.
+pub fn in_list(class: u32, code_point: u32) -> u32 {
+    // SAFETY: numbers go in and come out; no memory is shared.
+    unsafe { gelumbrio_in_list(class, code_point) }
+}
+
+/// The class that a published list gives this code point, 27 before the lowest; 0 where no list has it.
+pub fn class_of(code_point: u32) -> u32 {
+    // SAFETY: a number goes in and one comes out; no memory is shared.
+    unsafe { gelumbrio_class_of(code_point) }
 }

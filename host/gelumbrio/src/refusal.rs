@@ -1,4 +1,5 @@
-//! Why a call is refused (document 01, "Refusal numbers, in the order they are checked").
+//! Why a call is refused (document 01, "Refusal numbers, in the order they are checked", and document 02,
+//! request 04).
 
 use std::error::Error;
 use std::fmt;
@@ -16,7 +17,7 @@ pub enum Refusal {
     /// 4: what the slot holds is damaged.
     ///
     /// An edit finds a measure or indent out of limits, more than 256 records, or records that break
-    /// a rule. Only a set-up mends these, and it empties every slot of the sheet. A read finds more
+    /// a rule or are not in their classes' lists. Only a set-up mends these, and it empties every slot of the sheet. A read finds more
     /// than 256 lines, and [`Sheet::lines`](crate::Sheet::lines) lines that do not share out the
     /// records. Any accepted edit mends these, even an empty one: it composes the whole slot.
     Damaged,
@@ -36,6 +37,13 @@ pub enum Refusal {
     },
     /// 8, of ruby place, which names no record.
     Ruby,
+    /// 12, which comes before 9: a record's character is not in the published list of its class.
+    ///
+    /// [`in_list`](crate::in_list) tells whether it is, [`class_of`](crate::class_of) which class it may have.
+    NotListed {
+        /// Its number after the edit.
+        record: u32,
+    },
     /// 9: a record breaks a group rule.
     Group {
         /// Its number after the edit.
@@ -52,7 +60,7 @@ pub enum Refusal {
         slot: u32,
     },
     /// A number that this version of the crate does not know.
-    Unlisted {
+    Unknown {
         /// The number.
         number: u32,
         /// The place that came with it.
@@ -76,11 +84,12 @@ impl Refusal {
             9 => Refusal::Group { record: place },
             10 => Refusal::NoBreaking { record: place },
             11 => Refusal::Limits { slot: place },
-            _ => Refusal::Unlisted { number, place },
+            12 => Refusal::NotListed { record: place },
+            _ => Refusal::Unknown { number, place },
         })
     }
 
-    /// The number in document 01's table.
+    /// The number in document 01's table, or in the request that adds it.
     pub fn number(self) -> u32 {
         match self {
             Refusal::Length => 1,
@@ -94,7 +103,8 @@ impl Refusal {
             Refusal::Group { .. } => 9,
             Refusal::NoBreaking { .. } => 10,
             Refusal::Limits { .. } => 11,
-            Refusal::Unlisted { number, .. } => number,
+            Refusal::NotListed { .. } => 12,
+            Refusal::Unknown { number, .. } => number,
         }
     }
 }
@@ -123,6 +133,11 @@ impl fmt::Display for Refusal {
             Refusal::Ruby => {
                 f.write_str("a ruby place's base advance, ruby count, size or index is out of limits")
             }
+            Refusal::NotListed { record } => write!(
+                f,
+                "record {record}'s character is not in the published list of its class (JLReq Annex A; for class \
+                 19 the unified ideographs too); full-width forms are in none"
+            ),
             Refusal::Group { record } => write!(
                 f,
                 "record {record} differs in size or ruby count from its group, or is its group's seventeenth"
@@ -137,7 +152,7 @@ impl fmt::Display for Refusal {
             Refusal::Limits { slot } => {
                 write!(f, "the clinic, measure or indent for slot {slot} is out of limits")
             }
-            Refusal::Unlisted { number, place } => write!(f, "refused with number {number}, place {place}"),
+            Refusal::Unknown { number, place } => write!(f, "refused with number {number}, place {place}"),
         }
     }
 }

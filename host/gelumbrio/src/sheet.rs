@@ -73,8 +73,8 @@ impl Sheet {
     /// A sheet of words that were kept, which may be any.
     ///
     /// Damage shows as [`Refusal::Damaged`] in the call that meets it. An edit meets a measure or
-    /// indent out of limits, a record count over 256 and records that break a rule; only a set-up
-    /// mends these, and it empties every slot. A read meets a line count over 256, and
+    /// indent out of limits, a record count over 256 and records that break a rule or are not in their
+    /// classes' lists; only a set-up mends these, and it empties every slot. A read meets a line count over 256, and
     /// [`lines`](Sheet::lines) meets lines that do not share out the records; any accepted edit mends
     /// these, even an empty one. It also mends what no call judges, the x positions and the words
     /// past the counts. Another clinic's number in the slot shows as [`Refusal::Caller`].

@@ -1,6 +1,8 @@
 //! The safe face: sheets, typed lines and refusals in words.
 
-use gelumbrio::{ruby_place, Clinic, Edited, Kind, Line, Refusal, Sheet, SlotNumber, SLOT_WORDS};
+use gelumbrio::{
+    class_of, in_list, ruby_place, Clinic, Edited, Kind, Line, Refusal, Sheet, SlotNumber, SLOT_WORDS,
+};
 
 const CLINIC: Clinic = Clinic(7);
 const SLOT: SlotNumber = SlotNumber(0);
@@ -118,8 +120,8 @@ fn lines_are_held_against_the_record_count() {
 #[test]
 fn damaged_settings_and_records_need_a_set_up() {
     let sound = two_lines();
-    // Measure, indent, record count and a record's class.
-    for (at, word) in [(1, 7), (2, 440), (3, 300), (9, 17)] {
+    // Measure, indent, record count, a record's class, and code points and classes that do not go together.
+    for (at, word) in [(1, 7), (2, 440), (3, 300), (9, 17), (8, 0x3001), (9, 15)] {
         let mut sheet = damaged(&sound, at, word);
         assert_eq!(sheet.edit(CLINIC, SLOT, 0, 0, &[]), Err(Refusal::Damaged), "word {at} = {word}");
         assert_eq!(sheet.lines(CLINIC, SLOT).is_err(), at == 3, "word {at} = {word}");
@@ -154,6 +156,8 @@ fn refusals_by_number() {
     refused(sheet.edit(CLINIC, SLOT, 0, 0, &K.repeat(257)), 7, Refusal::TooManyRecords);
     let bad_record = [K, [0; 6]].concat();
     refused(sheet.edit(CLINIC, SLOT, 0, 0, &bad_record), 8, Refusal::Record { record: 1 });
+    let comma_as_19 = [K, K, [0x3001, 19, 80, 80, 0, 0]].concat();
+    refused(sheet.edit(CLINIC, SLOT, 0, 0, &comma_as_19), 12, Refusal::NotListed { record: 2 });
     let long_group = [0x6F22, 19, 80, 80, 1, 1].repeat(17);
     refused(sheet.edit(CLINIC, SLOT, 0, 0, &long_group), 9, Refusal::Group { record: 16 });
     let wide = [K, [0x6F22, 19, 408, 408, 0, 0]].concat();
@@ -174,8 +178,19 @@ fn a_refusal_says_why() {
     let expected = "what the slot holds is damaged; any accepted edit mends its lines, but bad settings or \
                     records need a set-up, which empties every slot";
     assert_eq!(Refusal::Damaged.to_string(), expected);
+    let told = Refusal::NotListed { record: 4 }.to_string();
+    assert!(told.starts_with("record 4's character is not in the published list of its class"), "{told}");
     let error: Box<dyn std::error::Error> = Box::new(Refusal::PastEnd { count: 12 });
     assert_eq!(error.to_string(), "the edit reaches past the slot's end; it has 12 records");
+}
+
+#[test]
+fn lists() {
+    // A character of two lists, one of class 19 alone, the full-width form that no list has.
+    assert_eq!([1, 19, 27].map(|class| in_list(class, '(')), [true, false, true]);
+    assert_eq!([15, 19, 27].map(|class| in_list(class, '漢')), [false, true, false]);
+    assert!((0..100).chain([u32::MAX]).all(|class| !in_list(class, '（')));
+    assert_eq!(['(', '漢', '𠮷', '、', '（'].map(class_of), [Some(27), Some(19), Some(19), Some(7), None]);
 }
 
 #[test]

@@ -74,6 +74,7 @@ pub fn space(left: &Unit, right: &Unit) -> Space {
 #[cfg(test)]
 mod tests {
     use super::*;
+    use crate::lists::usual;
     use crate::records::{Class, Record};
     use crate::units::units;
 
@@ -84,7 +85,7 @@ mod tests {
     /// The space between records of these classes, of sizes 80 and 160.
     fn between(left: u32, right: u32) -> Space {
         let record = |class, size| Record {
-            code_point: 0x3042,
+            code_point: usual(class).unwrap().into(),
             class: Class::new(class).unwrap(),
             size,
             advance: size,

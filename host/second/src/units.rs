@@ -109,10 +109,11 @@ pub fn ruby_place(base_advance: u32, ruby_count: u32, size: u32, k: u32) -> Ruby
 #[cfg(test)]
 mod tests {
     use super::*;
+    use crate::lists::usual;
 
     fn record(class: u32, group: u32, ruby_count: u32) -> Record {
         Record {
-            code_point: 0x3042,
+            code_point: usual(class).unwrap().into(),
             class: Class::new(class).unwrap(),
             size: 80,
             advance: 80,

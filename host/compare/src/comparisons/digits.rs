@@ -1,5 +1,7 @@
 //! Every pair of classes 27 and 13, in either order, with code points around the digits (document 02,
-//! request 01), and digits of class 19 before them, alone and in a group.
+//! request 01) as far as their lists have them, and digits of class 19 before them, alone and in a group.
+
+use second::in_list;
 
 use crate::calls::{Call, Case, Words};
 use crate::comparisons::pairs::texts;
@@ -40,7 +42,7 @@ fn stored() -> Case {
     let text = [plain(19, SIZE), plain(27, SIZE), plain(13, SIZE)].concat();
     // One less than the letter and its postfix take together.
     let measure = SIZE + SIZE / 2 - 1;
-    let calls = code_points().flat_map(|word| {
+    let calls = code_points(27).flat_map(|word| {
         [
             Call::SetUp { clinics: vec![7], measures: vec![measure], indents: vec![0] },
             Call::replace(7, 0, &text),
@@ -52,18 +54,19 @@ fn stored() -> Case {
     Case { length: SLOT, junk: None, calls: calls.collect() }
 }
 
-/// The digits with the code points beside them, a letter, postfixes, the digits of other scripts that
-/// Unicode calls decimal too, and both ends of the code points.
-fn code_points() -> impl Iterator<Item = u32> {
-    let others = ['a', '%', '℃', '５', '٥', '\u{1D7D3}', '\0', char::MAX];
-    (u32::from('0') - 1..=u32::from('9') + 1).chain(others.map(u32::from))
+/// Those of the class's list among the digits with the code points beside them, letters, postfixes, and what
+/// Unicode calls numeric too.
+fn code_points(class: u32) -> impl Iterator<Item = u32> {
+    let others = ['a', 'Z', '%', '℃', '°', '㎏', '²', '½', '①', '㊿', 'Ⅴ'];
+    let all = (u32::from('0') - 1..=u32::from('9') + 1).chain(others.map(u32::from));
+    all.filter(move |&code_point| in_list(class, code_point))
 }
 
 fn of_class(class: u32) -> impl Iterator<Item = Words> {
-    code_points().map(move |code_point| [code_point, class, SIZE, usual_advance(class, SIZE), 0, 0])
+    code_points(class).map(move |code_point| [code_point, class, SIZE, usual_advance(class, SIZE), 0, 0])
 }
 
 /// Groups of one record and one ruby character.
 fn grouped() -> impl Iterator<Item = Words> {
-    code_points().map(|code_point| [code_point, 19, SIZE, SIZE, 1, 1])
+    code_points(19).map(|code_point| [code_point, 19, SIZE, SIZE, 1, 1])
 }

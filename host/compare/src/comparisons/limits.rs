@@ -2,7 +2,7 @@
 
 use crate::calls::{Call, Case, Words};
 use crate::failure::Failure;
-use crate::generate::{plain, usual_advance, EDGES};
+use crate::generate::{plain, usual, usual_advance, EDGES};
 use crate::layout::{CLASSES, RECORDS, SLOT};
 use crate::program::Program;
 use crate::run::run;
@@ -141,7 +141,7 @@ fn record_sizes() -> Case {
             };
             for advance in advances {
                 calls.push(set_up(1, 1_000_000));
-                calls.push(Call::replace(7, 0, &[0x3042, class, size, advance, 0, 0]));
+                calls.push(Call::replace(7, 0, &[usual(class), class, size, advance, 0, 0]));
             }
         }
     }

@@ -5,6 +5,7 @@ pub mod digits;
 pub mod gaps;
 pub mod junk;
 pub mod limits;
+pub mod lists;
 pub mod pairs;
 pub mod paragraphs;
 pub mod redone;
@@ -21,10 +22,11 @@ use crate::Scope;
 pub type Comparison = fn(&dyn Program, Scope) -> Result<Tally, Failure>;
 
 /// All comparisons, the quickest first.
-pub const ALL: [Comparison; 11] = [
+pub const ALL: [Comparison; 12] = [
     cases::compare,
     ruby::compare,
     limits::compare,
+    lists::compare,
     junk::compare,
     digits::compare,
     pairs::compare,

@@ -5,7 +5,7 @@
 
 use crate::calls::Words;
 use crate::failure::Failure;
-use crate::generate::{plain, usual_advance};
+use crate::generate::{another, plain, usual, usual_advance};
 use crate::layout::CLASSES;
 use crate::one_slot::OneSlot;
 use crate::program::Program;
@@ -45,7 +45,8 @@ pub fn compare(program: &dyn Program, scope: Scope) -> Result<Tally, Failure> {
     Ok(slot.tally)
 }
 
-/// Calls `each` with every pair of units in these sizes, with equal code points and with others.
+/// Calls `each` with every pair of units in these sizes, with equal code points and, where the class has more than
+/// one, with others.
 pub fn for_each_pair(
     sizes: &[u32],
     mut each: impl FnMut(Words, Words) -> Result<(), Failure>,
@@ -55,9 +56,9 @@ pub fn for_each_pair(
             for left in units(left_size, 1) {
                 for right in units(right_size, 2) {
                     each(left, right)?;
-                    if left[1] == right[1] {
+                    if let Some(code_point) = another(right[1], right[0]).filter(|_| left[1] == right[1]) {
                         let mut other = right;
-                        other[0] += 1;
+                        other[0] = code_point;
                         each(left, other)?;
                     }
                 }
@@ -69,7 +70,7 @@ pub fn for_each_pair(
 
 /// A unit of each class, a group whose base is longer and one whose ruby is.
 fn units(size: u32, group: u32) -> impl Iterator<Item = Words> {
-    let groups = [1, 3].map(|ruby_count| [0x6F22, 15, size, size, group, ruby_count]);
+    let groups = [1, 3].map(|ruby_count| [usual(15), 15, size, size, group, ruby_count]);
     CLASSES.into_iter().map(move |class| plain(class, size)).chain(groups)
 }
 

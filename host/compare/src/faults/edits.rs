@@ -1,12 +1,11 @@
 //! Edits with a fault: what goes in is changed, or what comes out is spoiled.
 
-use std::ops::RangeInclusive;
-
-use second::{Edit, EditAnswer};
+use second::{in_list, Edit, EditAnswer};
 
 use super::slots::{slot_words_mut, spoil_next_slot, spoil_slot, store_records, stored_records, whole_slots};
 use super::Fault;
 use crate::calls::Words;
+use crate::generate::usual;
 use crate::layout::{slot_words, SLOT};
 use crate::program::{Program, Second};
 
@@ -26,11 +25,17 @@ fn with_changed_input(fault: Fault, sheet: &mut [u32], edit: Edit<'_>) -> EditAn
         Fault::ClassAs(class, other) => with_records_as(sheet, edit, |record| class_as(record, class, other)),
         Fault::NarrowRuby => with_records_as(sheet, edit, with_one_ruby),
         Fault::DashesAlike => with_records_as(sheet, edit, with_one_dash),
-        Fault::DigitParted => with_records_as(sheet, edit, |record| western_as(record, '0'..='9', 'a')),
-        Fault::NineParted => with_records_as(sheet, edit, |record| western_as(record, '9'..='9', 'a')),
-        Fault::LetterHeld => with_records_as(sheet, edit, |record| western_as(record, '\0'..=char::MAX, '5')),
-        Fault::WideDigitHeld => with_records_as(sheet, edit, |record| western_as(record, '０'..='９', '5')),
-        Fault::DigitOnTheRight => with_text_as(sheet, edit, with_code_points_of_the_next),
+        Fault::DigitParted => with_records_as(sheet, edit, |record| {
+            western_as(record, |character| character.is_ascii_digit(), 'a')
+        }),
+        Fault::NineParted => {
+            with_records_as(sheet, edit, |record| western_as(record, |character| character == '9', 'a'))
+        }
+        Fault::LetterHeld => with_records_as(sheet, edit, |record| western_as(record, |_| true, '5')),
+        Fault::NumericHeld => {
+            with_records_as(sheet, edit, |record| western_as(record, char::is_numeric, '5'))
+        }
+        Fault::Listed(mislisting) => mislisting.edit(sheet, edit),
         Fault::LargeSizes => with_records_as(sheet, edit, with_size_in_limits),
         Fault::CallerZero if edit.caller == 0 && clinic == 0 => {
             with_head_word(sheet, Edit { caller: 1, ..edit }, 0, 1)
@@ -61,19 +66,27 @@ fn with_head_word(sheet: &mut [u32], edit: Edit<'_>, at: usize, word: u32) -> Ed
     answer
 }
 
-/// The edit in which records are set as if they were others.
+/// The edit in which records are set as if they were others. One that its class's list lacks stays as it is, so that
+/// it is refused as it should be.
 fn with_records_as(sheet: &mut [u32], edit: Edit<'_>, other: impl Fn(Words) -> Words) -> EditAnswer {
-    with_text_as(sheet, edit, |records| records.iter().map(|&record| other(record)).collect())
+    let other = |record: Words| if in_list(record[1], record[0]) { other(record) } else { record };
+    with_texts_as(sheet, edit, &other, &other)
 }
 
-/// The edit in which the stored records and the inserted ones are set as if they were others.
-fn with_text_as(sheet: &mut [u32], edit: Edit<'_>, other: impl Fn(&[Words]) -> Vec<Words>) -> EditAnswer {
+/// The edit in which the stored records and the inserted ones are taken as if they were others.
+pub fn with_texts_as(
+    sheet: &mut [u32],
+    edit: Edit<'_>,
+    stored_as: impl Fn(Words) -> Words,
+    inserted_as: impl Fn(Words) -> Words,
+) -> EditAnswer {
     let mut records = stored_records(sheet, edit.slot);
     let (inserted, cut_short) = edit.inserted.as_chunks::<6>();
-    let mut changed_words = other(inserted).concat();
+    let mut changed_words: Vec<u32> = inserted.iter().flat_map(|&record| inserted_as(record)).collect();
     changed_words.extend_from_slice(cut_short);
 
-    store_records(sheet, edit.slot, &other(&records));
+    let stored: Vec<Words> = records.iter().map(|&record| stored_as(record)).collect();
+    store_records(sheet, edit.slot, &stored);
     let answer = Second.edit(sheet, Edit { inserted: &changed_words, ..edit });
     if answer.number == 0 {
         let place = edit.place as usize;
@@ -143,10 +156,10 @@ fn spoiled_refusal(fault: Fault, edit: Edit<'_>, old: &[u32], answer: EditAnswer
     }
 }
 
-/// The record, of another class where it is of this one and in no group.
+/// The record, of another class with a character of that where it is of this one and in no group.
 fn class_as(mut record: Words, class: u32, other: u32) -> Words {
     if record[1] == class && record[4] == 0 {
-        record[1] = other;
+        [record[0], record[1]] = [usual(other), other];
     }
     record
 }
@@ -164,22 +177,11 @@ fn with_one_dash(mut record: Words) -> Words {
 }
 
 /// The record, another character where it is one of these of class 27.
-fn western_as(mut record: Words, those: RangeInclusive<char>, other: char) -> Words {
-    if record[1] == 27 && char::from_u32(record[0]).is_some_and(|character| those.contains(&character)) {
+fn western_as(mut record: Words, is_one: impl Fn(char) -> bool, other: char) -> Words {
+    if record[1] == 27 && char::from_u32(record[0]).is_some_and(is_one) {
         record[0] = other.into();
     }
     record
-}
-
-/// The records, each of class 27 with the code point of the class 13 after it.
-fn with_code_points_of_the_next(records: &[Words]) -> Vec<Words> {
-    let mut changed = records.to_vec();
-    for (record, next) in changed.iter_mut().zip(records.iter().skip(1)) {
-        if record[1] == 27 && next[1] == 13 {
-            record[0] = next[0];
-        }
-    }
-    changed
 }
 
 /// The record, of size 4,000 where its own is larger and up to 4,096, its advance in proportion.

@@ -5,6 +5,7 @@
 
 mod edits;
 mod gaps;
+mod lists;
 mod redone;
 mod slots;
 
@@ -14,6 +15,7 @@ use second::{Answer, Edit, EditAnswer, RubyPlace};
 
 use crate::layout::{slot_words, LINES, SLOT};
 use crate::program::{Program, Second, SECOND};
+pub use lists::{wrong_lists, Mislisting, ASKED_WRONGLY, LOOKUPS};
 pub use redone::{Misreading, MISREADINGS};
 use slots::{keep_all_but_heads, keep_texts, whole_slots};
 
@@ -102,10 +104,8 @@ pub enum Fault {
     NineParted,
     /// Every character of class 27 holds it.
     LetterHeld,
-    /// Full-width digits of class 27 hold it too.
-    WideDigitHeld,
-    /// A postfix that is itself a digit is held, and no other.
-    DigitOnTheRight,
+    /// Every numeric character of class 27 holds it, as ² and ①.
+    NumericHeld,
     /// Ruby offsets are rounded up.
     RubyUp,
     /// Ruby place takes an index equal to the count.
@@ -128,9 +128,11 @@ pub enum Fault {
     Fields([u32; 4]),
     /// An edit misreports how many lines it composed anew.
     Redone(Misreading),
+    /// The published lists are wrong, or are asked wrongly.
+    Listed(Mislisting),
 }
 
-/// Every fault but those of digits, classes, gaps and redone lines.
+/// Every fault but those of digits, classes, gaps, redone lines and lists.
 pub const SINGLE: [Fault; 40] = [
     Fault::NaturalBreaks,
     Fault::DamageBeforeCaller,
@@ -175,8 +177,7 @@ pub const SINGLE: [Fault; 40] = [
 ];
 
 /// What holds the postfix after it (document 02, request 01).
-pub const DIGITS: [Fault; 5] =
-    [Fault::DigitParted, Fault::NineParted, Fault::LetterHeld, Fault::WideDigitHeld, Fault::DigitOnTheRight];
+pub const DIGITS: [Fault; 4] = [Fault::DigitParted, Fault::NineParted, Fault::LetterHeld, Fault::NumericHeld];
 
 /// A class set as another: each of these changes some rule.
 pub const CLASSES_AS: [Fault; 20] = [
@@ -282,6 +283,20 @@ impl Program for Fault {
                 Second.ruby_place(base_advance, ruby_count, size, k.saturating_sub(1))
             }
             _ => right,
+        }
+    }
+
+    fn in_list(&self, class: u32, code_point: u32) -> u32 {
+        match self {
+            Fault::Listed(mislisting) => mislisting.in_list(class, code_point).into(),
+            _ => Second.in_list(class, code_point),
+        }
+    }
+
+    fn class_of(&self, code_point: u32) -> u32 {
+        match self {
+            Fault::Listed(mislisting) => mislisting.class_of(code_point),
+            _ => Second.class_of(code_point),
         }
     }
 }
