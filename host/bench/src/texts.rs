@@ -1,4 +1,6 @@
-//! The texts that are composed.
+//! The texts that are composed. Every character is one of its class's list.
+
+use second::lists::{usual, BLOCKS};
 
 /// A record's words.
 pub type Words = [u32; 6];
@@ -17,7 +19,7 @@ const PHRASES: [(&str, u32); 16] = [
     ("毎食後に", 0),
     ("1回2錠を", 0),
     ("水またはぬるま湯で飲んでください。", 0),
-    ("（ロキソプロフェン）", 0),
+    ("(ロキソプロフェン)", 0),
     ("アセトアミノフェン500mgを", 0),
     ("「カロナール」", 0),
     ("10%の消毒液で", 0),
@@ -31,24 +33,56 @@ const PHRASES: [(&str, u32); 16] = [
     ("嘔吐", 3),
 ];
 
-/// A record outside groups.
+/// A record outside groups, of a usual character of its class.
 pub fn record(class: u32, size: u32) -> Words {
+    let character = usual(class).unwrap_or_else(|| panic!("{class} is no class"));
+    of_class(character.into(), class, size)
+}
+
+/// A record outside groups.
+fn of_class(code_point: u32, class: u32, size: u32) -> Words {
     let advance = if matches!(class, 1 | 2 | 5 | 6 | 7 | 27) { size / 2 } else { size };
-    [0x3042, class, size, advance, 0, 0]
+    [code_point, class, size, advance, 0, 0]
+}
+
+/// The records of a phrase, in a group of this number where it is not 0.
+fn phrase_records(phrase: &str, group: u32, ruby_count: u32) -> impl Iterator<Item = Words> + '_ {
+    phrase.chars().map(move |character| {
+        let [code_point, class, size, advance, ..] = of_class(character.into(), class(character), SIZE);
+        [code_point, class, size, advance, group, ruby_count]
+    })
+}
+
+/// So many records, of these again and again.
+fn repeated(records: impl Iterator<Item = Words> + Clone, count: u32) -> Vec<u32> {
+    records.cycle().take(count as usize).flatten().collect()
 }
 
 /// A text with ideographs, kana, punctuation, a Western word and a group with ruby, again and again.
 pub fn text(records: u32) -> Vec<u32> {
-    const CLASSES: [u32; 22] =
-        [19, 15, 19, 19, 15, 7, 16, 16, 10, 16, 15, 27, 27, 27, 15, 1, 19, 19, 2, 15, 15, 6];
-    let records = records as usize;
-    let mut words: Vec<Words> = Vec::with_capacity(records);
-    while words.len() < records {
-        words.extend(CLASSES.map(|class| record(class, SIZE)));
-        words.extend([[0x6F22, 19, SIZE, SIZE, 1, 5]; 2]);
-    }
-    words.truncate(records);
-    words.concat()
+    let plain: Vec<Words> = phrase_records("薬は食後に、クリームを5mgと「軟膏」など。", 0, 0).collect();
+    let group: Vec<Words> = phrase_records("錠剤", 1, 5).collect();
+    repeated(plain.into_iter().chain(group), records)
+}
+
+/// A text of Western words, again and again. Full-width spaces stand between them: without these no line may end.
+pub fn latin(records: u32) -> Vec<u32> {
+    let words = "Acetaminophen 500mg: take 1 or 2 tablets with water, not more than 8 a day (24h). \
+                 If you take a β-blocker, ask first. Café au lait is no problem. ";
+    let western = words.chars().map(|character| match character {
+        ' ' => record(14, SIZE),
+        _ => of_class(character.into(), 27, SIZE),
+    });
+    repeated(western, records)
+}
+
+/// A text of ideographs, of each block in turn.
+pub fn rare(records: u32) -> Vec<u32> {
+    let ideograph = |nth: u32| {
+        let block = BLOCKS[nth as usize % BLOCKS.len()];
+        of_class(block.first + 97 * nth % (block.last - block.first + 1), 19, SIZE)
+    };
+    (0..records).flat_map(ideograph).collect()
 }
 
 /// Texts of which no two are alike: phrases one after another, in an order of each text's own. Its seed is its number,
@@ -64,10 +98,7 @@ fn leaflet(mut order: Order) -> Vec<u32> {
         let (phrase, ruby_count) = PHRASES[order.below(PHRASES.len())];
         // A group has a number of its own: that of its first record, counted from 1.
         let group = if ruby_count == 0 { 0 } else { words.len() as u32 + 1 };
-        words.extend(phrase.chars().map(|character| {
-            let [_, class, size, advance, ..] = record(class(character), SIZE);
-            [character.into(), class, size, advance, group, ruby_count]
-        }));
+        words.extend(phrase_records(phrase, group, ruby_count));
     }
     words.truncate(records);
     words.concat()
@@ -76,8 +107,8 @@ fn leaflet(mut order: Order) -> Vec<u32> {
 /// The class of a character of the phrases.
 fn class(character: char) -> u32 {
     match character {
-        '（' | '「' => 1,
-        '）' | '」' => 2,
+        '(' | '「' => 1,
+        ')' | '」' => 2,
         '・' => 5,
         '。' => 6,
         '、' => 7,
@@ -112,6 +143,16 @@ mod tests {
     use std::collections::BTreeSet;
 
     use super::*;
+
+    #[test]
+    fn every_character_is_of_its_class() {
+        let usual = [1, 7, 14, 15, 19, 27].map(|class| record(class, SIZE)).concat();
+        for words in leaflets().chain([usual, text(257), latin(256), rare(256)]) {
+            for record in words.chunks(6) {
+                assert!(second::in_list(record[1], record[0]), "{record:?}");
+            }
+        }
+    }
 
     #[test]
     fn no_two_leaflets_are_alike() {

@@ -3,7 +3,7 @@
 use std::hint::black_box;
 
 use crate::programs::{self, Program};
-use crate::texts::{leaflets, record, text, Words, LEAFLETS, LEAFLET_RECORDS, SIZE};
+use crate::texts::{latin, leaflets, rare, record, text, Words, LEAFLETS, LEAFLET_RECORDS, SIZE};
 use crate::timing::Cell;
 
 const SLOT: usize = 2_824;
@@ -26,12 +26,15 @@ const ONE_OF_256_OVER_64_TEXTS: &str = "replace 1 of 256, 64 texts";
 /// Makes a row's cell for a program.
 type Row = fn(Program) -> Cell;
 
-const ROWS: [Row; 10] = [
+const ROWS: [Row; 12] = [
     |program| replace_all(program, "replace all 256"),
-    |program| replace_one(program, ONE_OF_256, 256, 1),
-    |program| replace_one(program, ONE_OF_128, 128, 1),
-    |program| replace_one(program, "replace 1 of 64", 64, 1),
-    |program| replace_one(program, ONE_OF_256_ON_64_SLOTS, 256, 64),
+    |program| replace_one(program, ONE_OF_256, &text(256), [15, 19], 1),
+    |program| replace_one(program, ONE_OF_128, &text(128), [15, 19], 1),
+    |program| replace_one(program, "replace 1 of 64", &text(64), [15, 19], 1),
+    |program| replace_one(program, ONE_OF_256_ON_64_SLOTS, &text(256), [15, 19], 64),
+    // The list of class 27 is the longest, and of the ideographs the blocks are asked.
+    |program| replace_one(program, "replace 1 of 256, Latin", &latin(256), [14, 27], 1),
+    |program| replace_one(program, "replace 1 of 256, rare kanji", &rare(256), [15, 19], 1),
     |program| replace_one_of_each(program, ONE_OF_256_OVER_64_TEXTS),
     |program| refused(program, "refused with 3", CLINIC + 1, record(19, SIZE), 3),
     |program| refused(program, "refused with 10", CLINIC, record(19, 4_000), 10),
@@ -61,7 +64,7 @@ fn memcpy() -> Cell {
 
 /// Replaces all 256 records by others.
 fn replace_all(program: Program, row: &'static str) -> Cell {
-    let mut sheet = composed_sheet(program, 256, 1);
+    let mut sheet = composed_sheet(program, &text(256), 1);
     let texts = [text(256), text(257)[6..].to_vec()];
     let mut turn = 0;
     Cell::new(row, program.name, move || {
@@ -71,15 +74,16 @@ fn replace_all(program: Program, row: &'static str) -> Cell {
     })
 }
 
-/// Replaces one record in the middle by another, in the last slot of a sheet.
-fn replace_one(program: Program, row: &'static str, records: u32, slots: u32) -> Cell {
-    let mut sheet = composed_sheet(program, records, slots);
-    let others = [record(15, SIZE), record(19, SIZE)];
+/// Replaces one record in the middle of a text by another, of each class in turn, in the last slot of a sheet.
+fn replace_one(program: Program, row: &'static str, text: &[u32], classes: [u32; 2], slots: u32) -> Cell {
+    let mut sheet = composed_sheet(program, text, slots);
+    let others = classes.map(|class| record(class, SIZE));
+    let middle = text.len() as u32 / 6 / 2;
     let mut turn = 0;
     Cell::new(row, program.name, move || {
         turn ^= 1;
         let inserted = black_box(&others[turn]);
-        let number = (program.edit)(black_box(&mut sheet), CLINIC, slots - 1, records / 2, 1, inserted);
+        let number = (program.edit)(black_box(&mut sheet), CLINIC, slots - 1, middle, 1, inserted);
         assert_eq!(number, 0);
     })
 }
@@ -104,7 +108,7 @@ fn replace_one_of_each(program: Program, row: &'static str) -> Cell {
 
 /// An edit of 256 records that is refused.
 fn refused(program: Program, row: &'static str, caller: u32, inserted: Words, expected: u32) -> Cell {
-    let mut sheet = composed_sheet(program, 256, 1);
+    let mut sheet = composed_sheet(program, &text(256), 1);
     Cell::new(row, program.name, move || {
         let number = (program.edit)(black_box(&mut sheet), caller, 0, 128, 1, black_box(&inserted));
         assert_eq!(number, expected);
@@ -113,7 +117,7 @@ fn refused(program: Program, row: &'static str, caller: u32, inserted: Words, ex
 
 /// A read with its companion.
 fn read(program: Program, row: &'static str) -> Cell {
-    let sheet = composed_sheet(program, 256, 1);
+    let sheet = composed_sheet(program, &text(256), 1);
     Cell::new(row, program.name, move || {
         let sheet = black_box(&sheet);
         let number = (program.read_number)(sheet, CLINIC, 0);
@@ -132,10 +136,10 @@ fn set_up(program: Program, row: &'static str) -> Cell {
     })
 }
 
-/// A sheet whose last slot holds a text of this many records.
-fn composed_sheet(program: Program, records: u32, slots: u32) -> Vec<u32> {
+/// A sheet whose last slot holds this text.
+fn composed_sheet(program: Program, text: &[u32], slots: u32) -> Vec<u32> {
     let mut sheet = fresh_sheet(program, slots);
-    fill(program, &mut sheet, slots - 1, &text(records));
+    fill(program, &mut sheet, slots - 1, text);
     sheet
 }
 
