@@ -183,6 +183,20 @@ pub fn spoil(random: &mut Random, words: &mut [u32]) {
     }
 }
 
+/// Spoils a few words, so that one record may fall under 8 and another, before or after it, under 12 or 9.
+pub fn spoil_some(random: &mut Random, words: &mut [u32]) {
+    (0..random.between(1, 4)).for_each(|_| spoil(random, words));
+}
+
+/// Gives a record the character of some class, mostly not its own.
+fn exchange_character(random: &mut Random, words: &mut [u32]) {
+    let (records, _) = words.as_chunks_mut::<6>();
+    if !records.is_empty() {
+        let at = random.below(records.len() as u32) as usize;
+        records[at][0] = of_any_class(random);
+    }
+}
+
 /// A random character of some class.
 fn of_any_class(random: &mut Random) -> u32 {
     let class = random.one_of(&CLASSES);
@@ -299,7 +313,8 @@ impl Caller {
         match random.below(30) {
             0 => words.push(random.word()),
             1 => drop(words.pop()),
-            2 | 3 => spoil(random, &mut words),
+            2 | 3 => spoil_some(random, &mut words),
+            4 => exchange_character(random, &mut words),
             _ => {}
         }
         words

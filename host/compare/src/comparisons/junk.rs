@@ -2,7 +2,7 @@
 
 use crate::calls::{Call, Case};
 use crate::failure::Failure;
-use crate::generate::{spoil, Style, EDGES};
+use crate::generate::{spoil, spoil_some, Style, EDGES};
 use crate::layout::SLOT;
 use crate::program::Program;
 use crate::random::{seeds, Random};
@@ -86,7 +86,10 @@ fn last_call(random: &mut Random, caller: u32, slot: u32, style: &Style) -> Call
     let caller = if random.once_in(8) { random.one_of(&EDGES) } else { caller };
     let slot = if random.once_in(8) { random.one_of(&EDGES) } else { slot };
     let count = random.below(4);
-    let inserted = style.paragraph(random, count);
+    let mut inserted = style.paragraph(random, count);
+    if random.once_in(4) {
+        spoil_some(random, &mut inserted);
+    }
     let (place, deleted) = match random.below(4) {
         0 => (random.one_of(&EDGES), random.one_of(&EDGES)),
         1 => (random.below(4), random.below(4)),

@@ -70,7 +70,7 @@ fn with_head_word(sheet: &mut [u32], edit: Edit<'_>, at: usize, word: u32) -> Ed
 /// it is refused as it should be.
 fn with_records_as(sheet: &mut [u32], edit: Edit<'_>, other: impl Fn(Words) -> Words) -> EditAnswer {
     let other = |record: Words| if in_list(record[1], record[0]) { other(record) } else { record };
-    with_texts_as(sheet, edit, &other, &other)
+    with_texts_as(sheet, edit, other, other)
 }
 
 /// The edit in which the stored records and the inserted ones are taken as if they were others.

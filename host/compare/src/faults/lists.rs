@@ -1,12 +1,11 @@
 //! Mistakes in the published lists, and in when and of which records they are asked (document 02, request 04).
 
-use second::lists::{in_list, BLOCKS};
+use second::lists::{in_list, usual, BLOCKS, COMPATIBILITY, LISTS};
 use second::{Edit, EditAnswer};
 
 use super::edits::with_texts_as;
 use super::slots::stored_records;
 use crate::calls::Words;
-use crate::generate::usual;
 use crate::program::{Program, Second};
 
 /// A wrong list, or a right one asked wrongly.
@@ -30,6 +29,8 @@ pub enum Mislisting {
     LowestFirst,
     /// 12 is asked before 8.
     BeforeEight,
+    /// 8 and 12 are asked record by record, and not 8 of all records first.
+    RecordByRecord,
     /// 12 is asked after 9.
     AfterNine,
     /// 12 is asked after 10.
@@ -54,15 +55,16 @@ pub fn wrong_lists() -> Vec<Mislisting> {
         Gained(27, '５'.into()),
         // For compatibility, and no unified ideograph.
         Gained(19, '\u{FA10}'.into()),
-        // One stands twice in Annex A, the other is an ideograph too.
+        // Stands twice in Annex A.
         Lost(19, 'Ⅻ'.into()),
-        Lost(19, '仝'.into()),
-        Lost(19, '﨎'.into()),
+        Lost(19, COMPATIBILITY[0].into()),
+        Lost(19, COMPATIBILITY[11].into()),
         Mislisting::NoSupplementary,
         Mislisting::ShortCodePoint,
         Mislisting::ByImport,
     ];
-    for (class, characters) in second::lists::LISTS {
+    // The last of 19 is 仝, which is an ideograph too.
+    for (class, characters) in LISTS {
         let ends = [characters.chars().next(), characters.chars().last()];
         faults.extend(ends.into_iter().flatten().map(|character| Lost(class, character.into())));
     }
@@ -78,8 +80,9 @@ pub fn wrong_lists() -> Vec<Mislisting> {
 pub const LOOKUPS: [Mislisting; 2] = [Mislisting::ClassWraps, Mislisting::LowestFirst];
 
 /// Right lists, asked wrongly.
-pub const ASKED_WRONGLY: [Mislisting; 6] = [
+pub const ASKED_WRONGLY: [Mislisting; 7] = [
     Mislisting::BeforeEight,
+    Mislisting::RecordByRecord,
     Mislisting::AfterNine,
     Mislisting::AfterTen,
     Mislisting::NamesInserted,
@@ -124,7 +127,8 @@ impl Mislisting {
     /// The edit that asks these lists.
     pub fn edit(self, sheet: &mut [u32], edit: Edit<'_>) -> EditAnswer {
         match self {
-            Mislisting::BeforeEight => before_eight(sheet, edit),
+            Mislisting::BeforeEight => instead_of_eight(sheet, edit, |_| edit.inserted_records()),
+            Mislisting::RecordByRecord => instead_of_eight(sheet, edit, |at| at),
             Mislisting::AfterNine => instead_of_twelve(sheet, edit, &[9]),
             Mislisting::AfterTen => instead_of_twelve(sheet, edit, &[9, 10]),
             Mislisting::NamesInserted => {
@@ -142,7 +146,7 @@ impl Mislisting {
     fn as_if(self, record: Words) -> Words {
         let [code_point, class, ..] = record;
         match (in_list(class, code_point), self.in_list(class, code_point)) {
-            (false, true) => with_character(record, usual(class)),
+            (false, true) => as_listed(record),
             (true, false) => with_character(record, IN_NO_LIST.into()),
             _ => record,
         }
@@ -158,7 +162,7 @@ fn with_character(mut record: Words, code_point: u32) -> Words {
 /// The record, with a character of its class where it has none and the class is one.
 fn as_listed(record: Words) -> Words {
     let [code_point, class, ..] = record;
-    let character = second::lists::usual(class).filter(|_| !in_list(class, code_point));
+    let character = usual(class).filter(|_| !in_list(class, code_point));
     // What falls under 8 by its code point still does.
     match character.filter(|_| char::from_u32(code_point).is_some()) {
         Some(character) => with_character(record, character.into()),
@@ -171,13 +175,17 @@ fn first_unlisted(records: &[Words]) -> Option<u32> {
     records.iter().position(|&[code_point, class, ..]| !in_list(class, code_point)).map(|at| at as u32)
 }
 
-/// The edit, where 8 gives way to 12.
-fn before_eight(sheet: &mut [u32], edit: Edit<'_>) -> EditAnswer {
+/// The edit, where 8 gives way to 12 if that is due to one of the first inserted records. How many these are is told
+/// by the number of the one, among the inserted, that falls under 8.
+fn instead_of_eight(sheet: &mut [u32], edit: Edit<'_>, first: impl Fn(usize) -> usize) -> EditAnswer {
     let answer = Second.edit(sheet, edit);
+    if answer.number != 8 {
+        return answer;
+    }
     let (inserted, _) = edit.inserted.as_chunks::<6>();
-    match first_unlisted(inserted) {
-        Some(at) if answer.number == 8 => EditAnswer { number: 12, place: edit.place + at, redone: 0 },
-        _ => answer,
+    match first_unlisted(&inserted[..first((answer.place - edit.place) as usize)]) {
+        Some(at) => EditAnswer { number: 12, place: edit.place + at, redone: 0 },
+        None => answer,
     }
 }
 
