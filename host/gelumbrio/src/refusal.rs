@@ -17,9 +17,10 @@ pub enum Refusal {
     /// 4: what the slot holds is damaged.
     ///
     /// An edit finds a measure or indent out of limits, more than 256 records, or records that break
-    /// a rule or are not in their classes' lists. Only a set-up mends these, and it empties every slot of the sheet. A read finds more
-    /// than 256 lines, and [`Sheet::lines`](crate::Sheet::lines) lines that do not share out the
-    /// records. Any accepted edit mends these, even an empty one: it composes the whole slot.
+    /// a rule or are not in their classes' lists. Only a set-up mends these, and it empties every slot
+    /// of the sheet. A read finds more than 256 lines, and [`Sheet::lines`](crate::Sheet::lines) lines
+    /// that do not share out the records. Any accepted edit mends these, even an empty one: it composes
+    /// the whole slot.
     Damaged,
     /// 5: the place or the deletion passes the end.
     PastEnd {

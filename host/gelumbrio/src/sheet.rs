@@ -74,10 +74,10 @@ impl Sheet {
     ///
     /// Damage shows as [`Refusal::Damaged`] in the call that meets it. An edit meets a measure or
     /// indent out of limits, a record count over 256 and records that break a rule or are not in their
-    /// classes' lists; only a set-up mends these, and it empties every slot. A read meets a line count over 256, and
-    /// [`lines`](Sheet::lines) meets lines that do not share out the records; any accepted edit mends
-    /// these, even an empty one. It also mends what no call judges, the x positions and the words
-    /// past the counts. Another clinic's number in the slot shows as [`Refusal::Caller`].
+    /// classes' lists; only a set-up mends these, and it empties every slot. A read meets a line count
+    /// over 256, and [`lines`](Sheet::lines) meets lines that do not share out the records; any accepted
+    /// edit mends these, even an empty one. It also mends what no call judges, the x positions and the
+    /// words past the counts. Another clinic's number in the slot shows as [`Refusal::Caller`].
     pub fn from_words(words: Vec<u32>) -> Result<Sheet, Refusal> {
         let slots = words.len() / SLOT_WORDS;
         if !words.len().is_multiple_of(SLOT_WORDS) || !(1..=MAX_SLOTS).contains(&slots) {

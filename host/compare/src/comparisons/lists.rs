@@ -1,6 +1,6 @@
 //! The published lists (document 02, request 04): every code point in every class, each character accepted in its
 //! class, its neighbours and other classes' characters refused with 12, before 9 and 10 and after 8, and answer 4 for
-//! stored records that are in no list of their class.
+//! stored records that their classes' lists lack.
 
 use second::in_list;
 use second::lists::{is_unified_ideograph, BLOCKS};
@@ -105,9 +105,9 @@ pub fn edits(program: &dyn Program, scope: Scope) -> Result<Tally, Failure> {
 
 /// A record of this class, whether its list has the code point or not.
 fn record(code_point: u32, class: u32) -> Words {
-    let [_, class, rest @ ..] = plain(class, SIZE);
-    let [size, advance, group, ruby_count] = rest;
-    [code_point, class, size, advance, group, ruby_count]
+    let mut record = plain(class, SIZE);
+    record[0] = code_point;
+    record
 }
 
 /// Each character in its class, as many at once as a slot holds. All ideographs in full, in brief those at the ends
@@ -119,14 +119,15 @@ fn listed(slot: &mut OneSlot, class: u32, scope: Scope) -> Result<(), Failure> {
         characters.extend(ideographs);
     }
     for characters in characters.chunks(MOST_RECORDS) {
-        let records: Vec<Words> = characters.iter().map(|&code_point| record(code_point, class)).collect();
-        slot.replace(&records.concat())?;
+        let text: Vec<u32> = characters.iter().flat_map(|&code_point| record(code_point, class)).collect();
+        slot.replace(&text)?;
+        assert_eq!(slot.records(), text, "a text that both programs refuse shows nothing");
     }
     Ok(())
 }
 
-/// The code points beside each of the class's, and other classes' characters, one by one in place of the fourth of
-/// five records. In brief the characters of the two longest lists are tried in no other class.
+/// The code points beside each of the class's, and other classes' characters, one by one as record 3, inserted with a
+/// sound one before it. In brief the characters of the two longest lists are tried in no other class.
 fn not_listed(slot: &mut OneSlot, class: u32, scope: Scope) -> Result<(), Failure> {
     let of_blocks = BLOCKS.into_iter().filter(|_| class == 19).flat_map(|block| [block.first, block.last]);
     let beside = annex_a(class).iter().copied().chain(of_blocks).flat_map(|end| [end - 1, end + 1]);
@@ -145,8 +146,8 @@ fn not_listed(slot: &mut OneSlot, class: u32, scope: Scope) -> Result<(), Failur
     Ok(())
 }
 
-/// All short texts of sound records and of such as fall under 8, 12, 9 and 10, among others: any 8 comes before any 12,
-/// any 12 before any 9, any 9 before any 10. The book answers likewise.
+/// All short texts of sound records and of such as fall under 8, 12, 9 or 10: any 8 comes before any 12, any 12 before
+/// any 9, any 9 before any 10. The book answers likewise.
 fn order(scope: Scope) -> Case {
     let comma_as_19 = record(usual(7), 19);
     let breaks_8 = [usual(19), 19, SIZE, SIZE + 1, 0, 0];
