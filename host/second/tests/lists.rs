@@ -6,7 +6,7 @@ use common::{
     compose, edit, flat, grouped, k, listed, one_slot, own, plain, refused, Words, CLINIC, COMMA_AS_19,
 };
 use second::book::Book;
-use second::lists::{annex_a, is_unified_ideograph, usual, BLOCKS, COMPATIBILITY, LISTS, USUAL};
+use second::lists::{annex_a, unified_ideographs, usual, BLOCKS, COMPATIBILITY, LISTS, USUAL};
 use second::sheet::SLOT_WORDS;
 use second::{class_of, in_list, Edit};
 
@@ -67,11 +67,9 @@ fn other_numbers_have_no_list() {
 }
 
 #[test]
-fn unified_ideographs() {
-    assert_eq!(
-        code_points().filter(|&code_point| is_unified_ideograph(code_point)).count(),
-        UNIFIED_IDEOGRAPHS
-    );
+fn ideographs_of_every_block() {
+    assert_eq!(unified_ideographs().count(), UNIFIED_IDEOGRAPHS);
+    assert!(unified_ideographs().all(|code_point| in_list(19, code_point)));
     for block in BLOCKS {
         let ends = [block.first - 1, block.first, block.last, block.last + 1];
         assert_eq!(ends.map(|end| in_list(19, end)), [false, true, true, false], "{}", block.name);

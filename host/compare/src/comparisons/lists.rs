@@ -3,7 +3,7 @@
 //! stored records that their classes' lists lack.
 
 use second::in_list;
-use second::lists::{is_unified_ideograph, BLOCKS};
+use second::lists::BLOCKS;
 
 use crate::calls::{Call, Case, Words};
 use crate::failure::Failure;
@@ -115,8 +115,7 @@ fn record(code_point: u32, class: u32) -> Words {
 fn listed(slot: &mut OneSlot, class: u32, scope: Scope) -> Result<(), Failure> {
     let mut characters = annex_a(class).to_vec();
     if class == 19 {
-        let ideographs = code_points(scope).filter(|&code_point| is_unified_ideograph(code_point));
-        characters.extend(ideographs);
+        characters.extend(code_points(scope).filter(|&code_point| in_list(19, code_point)));
     }
     for characters in characters.chunks(MOST_RECORDS) {
         let text: Vec<u32> = characters.iter().flat_map(|&code_point| record(code_point, class)).collect();

@@ -23,10 +23,10 @@ pub struct Block {
     pub last: u32,
 }
 
-/// The blocks of unified ideographs. The one that nearly every ideograph of a text stands in is looked at first.
+/// The blocks of unified ideographs.
 pub const BLOCKS: [Block; 10] = [
-    Block::new("CJK Unified Ideographs (URO)", 0x4E00, 0x9FFF),
     Block::new("Extension A", 0x3400, 0x4DBF),
+    Block::new("CJK Unified Ideographs (URO)", 0x4E00, 0x9FFF),
     Block::new("Extension B", 0x2_0000, 0x2_A6DF),
     Block::new("Extension C", 0x2_A700, 0x2_B739),
     Block::new("Extension D", 0x2_B740, 0x2_B81D),
@@ -40,10 +40,6 @@ pub const BLOCKS: [Block; 10] = [
 /// The twelve unified ideographs of the block CJK Compatibility Ideographs, whose others are not.
 pub const COMPATIBILITY: [char; 12] =
     ['﨎', '﨏', '﨑', '﨓', '﨔', '﨟', '﨡', '﨣', '﨤', '﨧', '﨨', '﨩'];
-
-/// Below the first ideograph a table has each code point's classes. From there on Annex A lists only an
-/// ideograph, 仝, as 19.
-const FIRST_IDEOGRAPH: usize = 0x3400;
 
 /// A character of each class that is usual in it, to make texts with.
 pub const USUAL: [(u32, char); 18] = [
@@ -70,23 +66,43 @@ pub const USUAL: [(u32, char); 18] = [
 /// The classes whose lists have a code point, class c as bit c.
 type Classes = u32;
 
-static CLASSES: LazyLock<Box<[Classes; FIRST_IDEOGRAPH]>> = LazyLock::new(|| {
-    let mut table = Box::new([0; FIRST_IDEOGRAPH]);
-    for (class, characters) in LISTS {
-        for character in characters.chars() {
-            if let Some(classes) = table.get_mut(character as usize) {
-                *classes |= 1 << class;
+/// The code points of a page.
+const PAGE: usize = 256;
+
+/// The classes of every code point, in pages. Most pages are alike, as those without any list and those inside a
+/// block of ideographs, and stand here once.
+struct Table {
+    /// Which page each stretch of so many code points has.
+    page_of: Vec<u8>,
+    pages: Vec<[Classes; PAGE]>,
+}
+
+static TABLE: LazyLock<Table> = LazyLock::new(Table::new);
+
+impl Table {
+    fn new() -> Table {
+        let mut classes: Vec<Classes> = vec![0; char::MAX as usize + 1];
+        for (class, characters) in LISTS {
+            characters.chars().for_each(|character| classes[character as usize] |= 1 << class);
+        }
+        unified_ideographs().for_each(|code_point| classes[code_point as usize] |= 1 << IDEOGRAPHIC);
+
+        let mut table = Table { page_of: Vec::new(), pages: Vec::new() };
+        let (stretches, _) = classes.as_chunks::<PAGE>();
+        for stretch in stretches {
+            let known = table.pages.iter().position(|page| page == stretch);
+            table.page_of.push(known.unwrap_or(table.pages.len()) as u8);
+            if known.is_none() {
+                table.pages.push(*stretch);
             }
         }
+        table
     }
-    table
-});
 
-/// The classes whose lists have this code point.
-fn classes(code_point: u32) -> Classes {
-    match CLASSES.get(code_point as usize) {
-        Some(&classes) => classes,
-        None => Classes::from(is_unified_ideograph(code_point)) << IDEOGRAPHIC,
+    /// The classes whose lists have this code point.
+    fn classes(&self, code_point: u32) -> Classes {
+        let (stretch, at) = (code_point as usize / PAGE, code_point as usize % PAGE);
+        self.page_of.get(stretch).map_or(0, |&page| self.pages[usize::from(page)][at])
     }
 }
 
@@ -103,23 +119,23 @@ pub fn usual(class: u32) -> Option<char> {
 
 /// Whether the list of this class has this code point. Numbers that are none of the eighteen have no list.
 pub fn in_list(class: u32, code_point: u32) -> bool {
-    class < Classes::BITS && classes(code_point) >> class & 1 == 1
+    class < Classes::BITS && TABLE.classes(code_point) >> class & 1 == 1
 }
 
 /// The class that a character gets on import: 27 if that list has it, otherwise the lowest-numbered list's,
 /// if there is one.
 pub fn class_of(code_point: u32) -> Option<u32> {
-    let classes = classes(code_point);
+    let classes = TABLE.classes(code_point);
     if classes >> WESTERN & 1 == 1 {
         return Some(WESTERN);
     }
     (classes != 0).then(|| classes.trailing_zeros())
 }
 
-/// Whether Unicode 15.1 gives this code point the property Unified_Ideograph.
-pub fn is_unified_ideograph(code_point: u32) -> bool {
-    BLOCKS.iter().any(|block| (block.first..=block.last).contains(&code_point))
-        || char::from_u32(code_point).is_some_and(|character| COMPATIBILITY.contains(&character))
+/// The code points to which Unicode 15.1 gives the property Unified_Ideograph.
+pub fn unified_ideographs() -> impl Iterator<Item = u32> {
+    let in_blocks = BLOCKS.into_iter().flat_map(|block| block.first..=block.last);
+    in_blocks.chain(COMPATIBILITY.map(u32::from))
 }
 
 impl Block {
