@@ -4,7 +4,6 @@ use Prim.Native.Nat.{ℕ}
 use native.Mathlib.Omega.{arith}
 use mathlib.Core.List.{List, [], _∷_}
 use mathlib.Core.Option.{none, some}
-
 pub use Rattle.lists.proofs.Facts.{tested, ordered, true-false}
 
 -- two constructors are never equal

@@ -16,3 +16,43 @@ Inv-loop ws n i₀ i = Passed isListed ws i
 
 abbrev μ-loop : tie.MeasureT-loop
 μ-loop ws n i₀ i = n - i
+
+-- what the two calls say of record i
+asked : (c : tie.After-in-list Inv-loop μ-loop) →
+    let l = c .before .before .before in
+    isListed (recAt (now (l .before .before .args .ws)) (l .loop .i)) ≡ c .in-list .result
+unfolding isListed
+asked c = sym (c .in-list .ensures ∙ ap isListed (c .before .record-at .ensures))
+
+loop-holds : tie.Need-loop-holds Inv-loop μ-loop
+loop-holds c = passed-start
+
+returns : tie.Need-returns Inv-loop μ-loop
+unfolding notListed
+returns c =
+    let d = c .before .before .before in
+    passed-not (d .loop-test .taken) (asked (c .before) ∙ not-true _ (c .if1 .taken)) (d .before .loop .inv)
+
+loop-again : tie.Need-loop-again Inv-loop μ-loop
+loop-again c =
+    let d = c .before .before .before in
+    passed-more (d .loop-test .taken) (asked (c .before) ∙ not-false _ (c .if1 .left)) (d .before .loop .inv)
+
+returns-2 : tie.Need-returns-2 Inv-loop μ-loop
+unfolding notListed
+returns-2 c = passed-end (c .loop-test .left) (c .before .loop .inv)
+
+pub first-not-listed-spec : {M : Type 1} → statement M
+first-not-listed-spec =
+    tie.close
+    (tie.spec
+    Inv-loop
+    μ-loop
+    loop-holds
+    (λ c κs. search needs)
+    (λ c κs. search needs)
+    returns
+    (λ c. search needs)
+    (λ c. search needs)
+    loop-again
+    returns-2)
