@@ -1,7 +1,7 @@
--- Answers 8, 9 and 10 from the places that the searches give. Assumes nothing.
+-- Answers 8, 12, 9 and 10 from the places that the searches give. Assumes nothing.
 use mathlib.Core.Path.{_≡_, refl, sym, ap, _∙_}
 use mathlib.Core.List.{List, [], _∷_, _++_}
-use mathlib.Core.Bool.{_&&_}
+use mathlib.Core.Bool.{Bool, _&&_}
 use mathlib.Core.Logic.{inl, inr}
 use mathlib.Core.Option.{Option, none, some}
 use Prim.Native.Nat.{ℕ, zero, suc, _+_, _≤_, _<_}
@@ -9,21 +9,23 @@ use native.Mathlib.Omega.{arith}
 use lib.Dec.{eqb, ltb}
 use lib.ListN.{length, getD}
 use lib.Seq.{getD-take}
-use Rattle.rules.specs.Basics.{Run, whole, joined}
+use Rattle.rules.specs.Basics.{Run, whole, joined, firstFailing}
 use Rattle.rules.specs.Records.{Rec, recOk, badRecord}
+use Rattle.rules.specs.Listed.{isListed, notListed}
 use Rattle.rules.specs.Groups.{TextUnit, sameGroup, badGroup, groupFault, units, counts}
 use Rattle.rules.specs.Breaks.{bound, runs, noBreaking}
 use Rattle.rules.specs.Adjustment.{lineOf, linesOf, compose}
 use Rattle.rules.specs.Refusals.{says, judged}
 use Rattle.rules.specs.Redone.{start}
 use Rattle.rules.proofs.Facts.{tested, some-none, some-same}
+use Rattle.rules.proofs.FirstFailing.{fails-within}
 use Rattle.rules.proofs.Cuts.{cut-joined, joined-append}
 use Rattle.rules.proofs.NoBreaking.{counts-append, place-of-10}
 use Rattle.rules.proofs.Lengths.{counts-units, length-linesOf, composed-few}
 use Rattle.rules.proofs.Words.{length-records}
-use Rattle.compose.specs.Paragraph.{size, paragraph, placeOr}
+use Rattle.compose.specs.Paragraph.{size, paragraph, Checked, placeOr}
 use Rattle.compose.specs.Lines.{firsts, broken, composed, Broken}
-use Rattle.compose.specs.Composed.{Accepted, Judged, Lined, Started}
+use Rattle.compose.specs.Composed.{RecordsJudged, Accepted, Judged, Lined, Started}
 
 -- a place below n names an answer; n itself names none, where answers name places below n
 pub named : (n r : ℕ) (o : Option ℕ) → r ≡ placeOr n o → r < n → o ≡ some r
@@ -33,15 +35,6 @@ named n r (some i) e h = ap some (sym e)
 unnamed : (n r : ℕ) (o : Option ℕ) → ((i : ℕ) → o ≡ some i → i < n) → r ≡ placeOr n o → n ≤ r → o ≡ none
 unnamed n r none k e h = refl
 unnamed n r (some i) k e h = let z : ⊥ = omega (arith, k i refl) in absurd z
-
-bad-within : (i j : ℕ) (rs : List Rec) → badRecord i rs ≡ some j → j < i + length rs
-unfolding badRecord
-bad-within i j [] e = absurd (some-none (sym e))
-bad-within i j (r ∷ rs) e =
-    elim (tested (recOk r)) [
-      | inl z ↦ omega (arith, bad-within (suc i) j rs (rw (z, badRecord) at e))
-      | inr z ↦ let q : i ≡ j = some-same (rw (z, badRecord) at e) in omega arith
-    ]
 
 group-within : (i n j : ℕ) (p : Rec) (rs : List Rec) → badGroup i n p rs ≡ some j → j < i + length rs
 unfolding badGroup
@@ -76,8 +69,18 @@ module _ (ws : List ℕ) (r : ℕ) (out : size ws ≤ r) where
   len : length (paragraph ws) ≡ size ws
   len = length-records ws 0 (size ws)
 
+  -- the first record that fails a test, answer 8's or 12's
+  none-fails : (t : Rec → Bool) → r ≡ placeOr (size ws) (firstFailing t 0 (paragraph ws)) →
+      firstFailing t 0 (paragraph ws) ≡ none
+  none-fails t e = unnamed (size ws) r _ (λ i q. omega (arith, fails-within t 0 i (paragraph ws) q, len)) e out
+
   pub no-8 : r ≡ placeOr (size ws) (badRecord 0 (paragraph ws)) → badRecord 0 (paragraph ws) ≡ none
-  no-8 e = unnamed (size ws) r _ (λ i q. omega (arith, bad-within 0 i (paragraph ws) q, len)) e out
+  unfolding badRecord
+  no-8 e = none-fails recOk e
+
+  pub no-12 : r ≡ placeOr (size ws) (notListed 0 (paragraph ws)) → notListed 0 (paragraph ws) ≡ none
+  unfolding notListed
+  no-12 e = none-fails isListed e
 
   pub no-9 : r ≡ placeOr (size ws) (groupFault (paragraph ws)) → groupFault (paragraph ws) ≡ none
   no-9 e = unnamed (size ws) r _ (λ i q. omega (arith, fault-within i (paragraph ws) q, len)) e out
@@ -91,19 +94,31 @@ module _ (m x : ℕ) (rs : List Rec) where
   unfolding judged
   judged-8 i e = rw e
 
-  pub judged-9 : (i : ℕ) → badRecord 0 rs ≡ none → groupFault rs ≡ some i → judged m x rs ≡ says 9 i
+  pub judged-12 : (i : ℕ) → badRecord 0 rs ≡ none → notListed 0 rs ≡ some i → judged m x rs ≡ says 12 i
   unfolding judged
-  judged-9 i a e = rw (a, e)
+  judged-12 i a e = rw (a, e)
 
-  pub judged-10 : (i : ℕ) → badRecord 0 rs ≡ none → groupFault rs ≡ none → noBreaking m x (units rs) ≡ some i →
-      judged m x rs ≡ says 10 i
+  pub judged-9 : (i : ℕ) → badRecord 0 rs ≡ none → notListed 0 rs ≡ none → groupFault rs ≡ some i →
+      judged m x rs ≡ says 9 i
   unfolding judged
-  judged-10 i a b e = rw (a, b, e)
+  judged-9 i a l e = rw (a, l, e)
 
-  pub judged-0 : badRecord 0 rs ≡ none → groupFault rs ≡ none → noBreaking m x (units rs) ≡ none →
-      judged m x rs ≡ says 0 (length (compose m x (units rs)))
+-- past 8, 12 and 9
+module _ (m x : ℕ) {ws : List ℕ} (c : Checked ws) where
+  pub judged-10 : (i : ℕ) → noBreaking m x (units (paragraph ws)) ≡ some i → judged m x (paragraph ws) ≡ says 10 i
   unfolding judged
-  judged-0 a b e = rw (a, b, e)
+  judged-10 i e = rw (c .sound, c .listed, c .grouped, e)
+
+  pub judged-0 : noBreaking m x (units (paragraph ws)) ≡ none →
+      judged m x (paragraph ws) ≡ says 0 (length (compose m x (units (paragraph ws))))
+  unfolding judged
+  judged-0 e = rw (c .sound, c .listed, c .grouped, e)
+
+-- a refusal as the contract of `check_records` has it
+pub records-refused : {ws : List ℕ} {number place n p : ℕ} → (number ≡ n) × (place ≡ p) → (n ≡ 0 → ⊥) →
+    ((m x : ℕ) → judged m x (paragraph ws) ≡ says n p) → RecordsJudged ws number place
+records-refused e z h =
+    record { refused = λ q m x. rw (e .0, e .1) (h m x); accepted = λ q. absurd (z (sym (e .0) ∙ q)) }
 
 -- a refusal and an acceptance, as the contract of `judge` has them
 pub refusal : (ws : List ℕ) (m x : ℕ) (us gs rs : List ℕ) (n p number place : ℕ) → (number ≡ n) × (place ≡ p) →
@@ -132,7 +147,7 @@ pub lined : {ws : List ℕ} {m x : ℕ} {us gs rs starts : List ℕ} {count numb
 lined {ws} {m} {x} a b e =
     record {
       answer =
-          judged-0 m x (paragraph ws) (a .checked .sound) (a .checked .grouped) (a .fits)
+          judged-0 m x (a .checked) (a .fits)
           ∙ rw (e .0, e .1, b .count) (ap (says 0) (lines-composed ws m x));
       accepted = λ q. a;
       broken = λ q. rw (e .1) b;

@@ -1,4 +1,4 @@
--- The loops of answers 8 and 9, as steps: what is left from a record on gives what the whole paragraph gives.
+-- The loops of answers 8, 12 and 9, as steps: what is left from a record on gives what the whole paragraph gives.
 -- Assumes nothing.
 use mathlib.Core.Path.{_≡_}
 use Prim.Native.Nat.{ℕ, suc, _+_, _-_, _≤_, _<_}
@@ -9,7 +9,8 @@ use mathlib.Core.List.{List, [], _∷_}
 use mathlib.Core.Logic.{inl, inr}
 use lib.Dec.{eqb}
 use borrow.Author.Tests.{lt-ltb, le-ltb}
-use Rattle.rules.specs.Records.{Rec, recAt, recOk, badRecord, records}
+use Rattle.rules.specs.Basics.{firstFailing}
+use Rattle.rules.specs.Records.{Rec, recAt, records}
 use Rattle.rules.specs.Groups.{sameGroup, badGroup, groupFault}
 use Rattle.rules.proofs.Facts.{ordered}
 use Rattle.compose.specs.Paragraph.{size, paragraph, placeOr}
@@ -19,33 +20,33 @@ records-end : (ws : List ℕ) (i : ℕ) → size ws ≤ i → records ws i (size
 unfolding records
 records-end ws i h = let e : size ws - i ≡ 0 = omega arith in rw e
 
--- Answer 8 ---------------------------------------------------------------------------------------------------------
+-- Answers 8 and 12 -------------------------------------------------------------------------------------------------
 
--- the records before i keep their rules
-pub record Sound (ws : List ℕ) (i : ℕ) : Type 0 where
-  pub same : badRecord i (records ws i (size ws - i)) ≡ badRecord 0 (paragraph ws)
+-- the records before i pass a test
+pub record Passed (t : Rec → Bool) (ws : List ℕ) (i : ℕ) : Type 0 where
+  pub same : firstFailing t i (records ws i (size ws - i)) ≡ firstFailing t 0 (paragraph ws)
 
--- the place that answer 8 names, or the number of records
-abbrev badPlace : List ℕ → ℕ
-badPlace ws = placeOr (size ws) (badRecord 0 (paragraph ws))
+-- the place of the first record that fails it, or the number of records
+abbrev failingPlace : (Rec → Bool) → List ℕ → ℕ
+failingPlace t ws = placeOr (size ws) (firstFailing t 0 (paragraph ws))
 
-module _ {ws : List ℕ} where
-  pub sound-start : Sound ws 0
-  sound-start = record { same = rw sub-zero }
+module _ {t : Rec → Bool} {ws : List ℕ} where
+  pub passed-start : Passed t ws 0
+  passed-start = record { same = rw sub-zero }
 
-  pub sound-more : {i : ℕ} → i < size ws → recOk (recAt ws i) ≡ true → Sound ws i → Sound ws (i + 1)
-  unfolding badRecord
-  sound-more {i} h e s =
+  pub passed-more : {i : ℕ} → i < size ws → t (recAt ws i) ≡ true → Passed t ws i → Passed t ws (i + 1)
+  unfolding firstFailing
+  passed-more {i} h e s =
       let n : suc i ≡ i + 1 = omega arith in
-      record { same = rw (records-from ws i h, badRecord, e, n) at (s .same) }
+      record { same = rw (records-from ws i h, firstFailing, e, n) at (s .same) }
 
-  pub sound-bad : {i : ℕ} → i < size ws → recOk (recAt ws i) ≡ false → Sound ws i → i ≡ badPlace ws
-  unfolding badRecord
-  sound-bad {i} h e s = rw (← s .same, records-from ws i h, badRecord, e)
+  pub passed-not : {i : ℕ} → i < size ws → t (recAt ws i) ≡ false → Passed t ws i → i ≡ failingPlace t ws
+  unfolding firstFailing
+  passed-not {i} h e s = rw (← s .same, records-from ws i h, firstFailing, e)
 
-  pub sound-end : {i : ℕ} → size ws ≤ i → Sound ws i → size ws ≡ badPlace ws
-  unfolding badRecord
-  sound-end {i} h s = rw (← s .same, records-end ws i h)
+  pub passed-end : {i : ℕ} → size ws ≤ i → Passed t ws i → size ws ≡ failingPlace t ws
+  unfolding firstFailing
+  passed-end {i} h s = rw (← s .same, records-end ws i h)
 
 -- Answer 9 ---------------------------------------------------------------------------------------------------------
 

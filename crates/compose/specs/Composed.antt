@@ -1,8 +1,9 @@
 -- A paragraph judged, and composed.
 --
 --   fitting      at most 256 records, a measure and an indent within their limits
+--   records judged    the answer 8, 12 or 9 with its place, in any measure; or 0, and the records are checked
 --   filled       the tables are those of the paragraph
---   judged       the answer 8, 9 or 10 with its place; or 0, and the tables are filled
+--   judged       the answer 8, 12, 9 or 10 with its place; or 0, and the tables are filled
 --   lined        the answer; where it is 0, the tables are filled and the lines broken
 --   started      the answer; where it is 0, the first record of each line is told
 --   composed     the answer; where it is 0, the place words and line words stand at the front of what stood there
@@ -25,6 +26,10 @@ pub record Fitting (ws : List ℕ) (m x : ℕ) : Type 0 where
   pub few : size ws ≤ 256
   pub measure : m ≤ 1000000
   pub indent : x ≤ 1000000
+
+pub record RecordsJudged (ws : List ℕ) (number place : ℕ) : Type 0 where
+  pub refused : (number ≡ 0 → ⊥) → (m x : ℕ) → judged m x (paragraph ws) ≡ says number place
+  pub accepted : number ≡ 0 → Checked ws
 
 pub record Filled (ws us gs rs : List ℕ) : Type 0 where
   pub units : UnitTable ws us

@@ -4,7 +4,7 @@
 --   from         the units of the records from record i on
 --   unitAt       the unit that starts with record i; nextAt: the record after it
 --   runAt        the run, between neighbouring permitted breaks, that starts with record i; runEnd: the one after it
---   checked      a paragraph of at most 256 records, to which answers 8 and 9 do not apply
+--   checked      a paragraph of at most 256 records, to which answers 8, 12 and 9 do not apply
 --
 -- A unit or run by a record inside a group is what the rules make of the records from there on. No answer hangs on it:
 -- `all_narrow` reads every row, but only to pass over the search, which looks at the runs alone. Assumes nothing.
@@ -15,6 +15,7 @@ use mathlib.Core.Option.{Option, none, some}
 use lib.ListN.{length}
 use Rattle.rules.specs.Basics.{Run, alone, whole}
 use Rattle.rules.specs.Records.{Rec, recAt, records, badRecord}
+use Rattle.rules.specs.Listed.{notListed}
 use Rattle.rules.specs.Sides.{sideBy}
 use Rattle.rules.specs.Groups.{TextUnit, units, count, counts, groupFault}
 use Rattle.rules.specs.Gaps.{Gap, gapOf}
@@ -53,9 +54,10 @@ runEnd ws i = i + counts (whole (runAt ws i))
 pub record Checked (ws : List ℕ) : Type 0 where
   pub few : size ws ≤ 256
   pub sound : badRecord 0 (paragraph ws) ≡ none
+  pub listed : notListed 0 (paragraph ws) ≡ none
   pub grouped : groupFault (paragraph ws) ≡ none
 
--- a place that answer 8, 9 or 10 names, or n
+-- a place that answer 8, 12, 9 or 10 names, or n
 abbrev pub placeOr : ℕ → Option ℕ → ℕ
 placeOr n none = n
 placeOr n (some i) = i

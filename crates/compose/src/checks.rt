@@ -1,10 +1,12 @@
-// Answers 8 and 9, for any words at all. A paragraph is its record words, six to a record.
+// Answers 8, 12 and 9, for any words at all. A paragraph is its record words, six to a record.
 ghost use mathlib.Core.Path.{_≡_};
 ghost use Prim.Native.Nat.{_<_};
 ghost use Rattle.rules.specs.Records.{recAt, badRecord};
+ghost use Rattle.rules.specs.Listed.{notListed};
 ghost use Rattle.rules.specs.Groups.{joins, groupFault};
 ghost use Rattle.rules.specs.Values.{recordOf};
 ghost use Rattle.compose.specs.Paragraph.{size, paragraph, placeOr};
+use lists::in_list;
 use rules::Record;
 use rules::class_table;
 use rules::record_ok;
@@ -35,6 +37,22 @@ pub(crate) fn first_bad_record(ws: &[u32]) -> usize
     let mut i = 0;
     while i < n {
         if !record_ok(record_at(ws, i), &classes) {
+            return i;
+        }
+        i += 1;
+    }
+    n
+}
+
+// The first record whose class's list lacks its code point, or how many there are.
+pub(crate) fn first_not_listed(ws: &[u32]) -> usize
+    ensures { λ r. ⌜ r ≡ placeOr (size (now (ws .entry))) (notListed 0 (paragraph (now (ws .entry)))) ⌝ }
+{
+    let n = ws.len() / 6;
+    let mut i = 0;
+    while i < n {
+        let r = record_at(ws, i);
+        if !in_list(r.class, r.code) {
             return i;
         }
         i += 1;

@@ -1,12 +1,13 @@
 // A paragraph judged and composed.
 ghost use mathlib.Core.Path.{_≡_};
 ghost use Prim.Native.Nat.{_≤_};
-ghost use Rattle.compose.specs.Paragraph.{Checked};
-ghost use Rattle.compose.specs.Composed.{Fitting, Filled, Judged, Lined, Started, Composed};
+ghost use Rattle.compose.specs.Paragraph.{size, Checked};
+ghost use Rattle.compose.specs.Composed.{Fitting, RecordsJudged, Filled, Judged, Lined, Started, Composed};
 use crate::breaking::break_lines;
 use crate::breaking::first_wide_run;
 use crate::checks::first_bad_record;
 use crate::checks::first_group_fault;
+use crate::checks::first_not_listed;
 use crate::places::place_lines;
 use crate::tables::fill_gaps_and_runs;
 use crate::tables::fill_units;
@@ -28,7 +29,28 @@ fn says(number: u32, place: usize) -> Answer
     }
 }
 
-// Fills the table of units, then those of gaps and runs, from a paragraph that answers 8 and 9 let pass.
+// Answers 8, 12 and 9 of a paragraph, which no measure changes; or 0.
+fn check_records(ws: &[u32]) -> Answer
+    requires { ⌜ size (now ws) ≤ 256 ⌝ }
+    ensures { λ r. ⌜ RecordsJudged (now (ws .entry)) (r .number) (r .place) ⌝ }
+{
+    let n = ws.len() / 6;
+    let bad = first_bad_record(ws);
+    if bad < n {
+        return says(8, bad);
+    }
+    let lacking = first_not_listed(ws);
+    if lacking < n {
+        return says(12, lacking);
+    }
+    let fault = first_group_fault(ws);
+    if fault < n {
+        return says(9, fault);
+    }
+    says(0, 0)
+}
+
+// Fills the table of units, then those of gaps and runs, from a paragraph that answers 8, 12 and 9 let pass.
 fn fill_tables(ws: &[u32], units: &mut [u32; 768], gaps: &mut [u64; 256], runs: &mut [u32; 768])
     requires { ⌜ Checked (now ws) ⌝ }
     ensures { λ _. ⌜ Filled (now (ws .entry)) (now (units .exit)) (now (gaps .exit)) (now (runs .exit)) ⌝ }
@@ -37,7 +59,7 @@ fn fill_tables(ws: &[u32], units: &mut [u32; 768], gaps: &mut [u64; 256], runs: 
     fill_gaps_and_runs(ws, units, gaps, runs);
 }
 
-// Answers 8, 9 and 10 of a paragraph, in the measure `m` with the indent `x`; or 0, and the tables are filled.
+// Answers 8, 12, 9 and 10 of a paragraph, in the measure `m` with the indent `x`; or 0, and the tables are filled.
 fn judge(
     ws: &[u32],
     m: u32,
@@ -50,24 +72,19 @@ fn judge(
     ensures { λ r. ⌜ Judged (now (ws .entry)) m x (now (units .exit)) (now (gaps .exit)) (now (runs .exit))
         (r .number) (r .place) ⌝ }
 {
-    let n = ws.len() / 6;
-    let bad = first_bad_record(ws);
-    if bad < n {
-        return says(8, bad);
-    }
-    let fault = first_group_fault(ws);
-    if fault < n {
-        return says(9, fault);
+    let a = check_records(ws);
+    if a.number != 0 {
+        return a;
     }
     fill_tables(ws, units, gaps, runs);
     let wide = first_wide_run(ws, runs, m, x);
-    if wide < n {
+    if wide < ws.len() / 6 {
         return says(10, wide);
     }
     says(0, 0)
 }
 
-// Answers 8, 9 and 10 of a paragraph; or 0 and its line count, and then the tables are filled and the first record of
+// Answers 8, 12, 9 and 10 of a paragraph; or 0 and its line count, and then the tables are filled and the first record of
 // each line stands in `starts`.
 fn judge_and_break(
     ws: &[u32],
@@ -90,7 +107,7 @@ fn judge_and_break(
     says(0, count)
 }
 
-// Whether and how a paragraph breaks into lines: answers 8, 9 and 10; or 0 and the line count, and then the first
+// Whether and how a paragraph breaks into lines: answers 8, 12, 9 and 10; or 0 and the line count, and then the first
 // record of each line stands in `starts`.
 pub fn check(ws: &[u32], m: u32, x: u32, starts: &mut [u32; 256]) -> Answer
     requires { ⌜ Fitting (now ws) m x ⌝ }

@@ -1,14 +1,16 @@
 -- What is proved of document 01's rules, as document 02's requests amend them, in reading order: each claim is stated
 -- in the words of specs/Meanings.antt and proved by one citation. Assumes nothing.
-use mathlib.Core.Path.{_≡_, _∙_, sym}
+use mathlib.Core.Path.{_≡_, refl, _∙_, sym}
 use Prim.Native.Nat.{ℕ, _+_, _-_, _/_, _≤_, _<_}
 use mathlib.Core.Bool.{Bool, true, false}
 use mathlib.Core.List.{List, _∷_, _++_, map}
 use mathlib.Core.Logic.{_↔_}
 use mathlib.Core.Option.{none, some}
 use lib.ListN.{length, getD}
+use Rattle.lists.specs.Lists.{lists}
 use Rattle.rules.specs.Basics.{Run, whole}
-use Rattle.rules.specs.Records.{Rec, classOk}
+use Rattle.rules.specs.Records.{Rec, classes, classOk}
+use Rattle.rules.specs.Listed.{notListed}
 use Rattle.rules.specs.Space.{ruleOf, spaceOf}
 use Rattle.rules.specs.Groups.{TextUnit, sameGroup, units, advance, groupAdvance, baseOffsets, rubyOffset}
 use Rattle.rules.specs.Sides.{Side, arabicDigit, forbidden}
@@ -18,12 +20,14 @@ use Rattle.rules.specs.Adjustment.{plus, amountsOf, totals, natural, Lin
 use Rattle.rules.specs.Redone.{editLine, resumes, resumed, report}
 use Rattle.rules.specs.Refusals.{judged, splice}
 use Rattle.rules.specs.Meanings.{All, lastOf, Maximal, Boundary, OneUnit, RubyPlaced, Choice, Fits, Longest}
-use Rattle.rules.specs.Meanings.{FirstWide, GapAt, WithinLimits, FirstStageFull, Apart}
+use Rattle.rules.specs.Meanings.{FirstWide, GapAt, WithinLimits, FirstStageFull, Apart, FirstLacking, Listed}
 use Rattle.rules.specs.Percent.{digitAndPostfix}
 use Rattle.rules.specs.Stable.{Holds, FirstThat, Resumes, usedBy, StableEdit}
 use Rattle.rules.specs.Spacing.{named, gapSet, spacingTable, cellIn}
 use Rattle.rules.specs.Packed.{packed, unpacked, Packs, AtMost}
 use Rattle.rules.proofs.Facts.{some-none}
+use Rattle.rules.proofs.Judged.{judged-passes}
+use Rattle.rules.proofs.Listed.{classIn, classes-listed, all-listed, first-not-listed}
 use Rattle.rules.proofs.Worked.{right}
 use Rattle.rules.proofs.Cases.{rows, cases-hold}
 use Rattle.rules.proofs.PercentCases.{percents, percents-hold}
@@ -51,6 +55,24 @@ use Rattle.rules.proofs.spacing.spacing_table.Statement as spacing-tabl
 use Rattle.rules.proofs.spacing.spacing_table.Met as spacing-table-met
 use Rattle.rules.proofs.groups.ruby_place.Statement as ruby-place-contract
 use Rattle.rules.proofs.groups.ruby_place.Met as ruby-place-met
+
+-- Lists, request 04 ------------------------------------------------------------------------------------------------
+
+-- the eighteen classes are those that have a list
+pub lists-of-classes : map classIn lists ≡ classes
+lists-of-classes = classes-listed
+
+-- answer 12 is not due exactly where each record's code point stands in the list of its class
+pub no-12-exactly : (rs : List Rec) → (notListed 0 rs ≡ none) ↔ All Listed rs
+no-12-exactly rs = all-listed rs
+
+-- and is due, with its place, exactly where that is the first record of which this is not so
+pub answer-12-exactly : (rs : List Rec) (i : ℕ) → (notListed 0 rs ≡ some i) ↔ FirstLacking Listed rs i
+answer-12-exactly rs i = first-not-listed rs i
+
+-- so the code point of each record that is accepted in some measure stands in the list of its class
+pub accepted-listed : (m x : ℕ) (rs : List Rec) → judged m x rs .number ≡ 0 → All Listed rs
+accepted-listed m x rs h = all-listed rs .0 (judged-passes m x rs 0 refl h .listed)
 
 -- Units ------------------------------------------------------------------------------------------------------------
 

@@ -11,6 +11,7 @@ use borrow.Author.Tests.{eqb-true, ne-eqb}
 use Rattle.rules.specs.Basics.{within, isIn}
 use Rattle.rules.specs.Records.{Rec, sizeOk, advanceKind, advanceOk, groupOk, recOk, badRecord}
 use Rattle.rules.specs.Meanings.{All, all-none, all-more}
+use Rattle.rules.proofs.FirstFailing.{none-fails}
 use Rattle.rules.proofs.Bounds.{size-bounds}
 use Rattle.rules.proofs.Facts.{tested, true-false, some-none}
 use Rattle.rules.proofs.Limits.{asked}
@@ -20,12 +21,7 @@ Fine r = recOk r ≡ true
 
 pub all-fine : (i : ℕ) (rs : List Rec) → badRecord i rs ≡ none → All Fine rs
 unfolding badRecord
-all-fine i [] h = all-none
-all-fine i (r ∷ rs) h =
-    elim (tested (recOk r)) [
-      | inl e ↦ all-more e (all-fine (suc i) rs (rw (e, badRecord) at h))
-      | inr e ↦ let f : some i ≡ none = rw (e, badRecord) at h in absurd (some-none f)
-    ]
+all-fine i rs h = none-fails recOk i rs h
 
 -- classes 15, 16 and 19 are as wide as their size
 as-wide : (c s a : ℕ) → isIn c (15 ∷ 16 ∷ 19 ∷ []) ≡ true → advanceOk c s a ≡ true → a ≡ s

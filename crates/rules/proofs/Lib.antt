@@ -1,7 +1,9 @@
 -- Laws of the rules' definitions and of the leaf functions. `Claims` states what is proved of the rules, in reading
 -- order.
 pub mod Facts
+pub mod FirstFailing
 pub mod Judged
+pub mod Listed
 pub mod Worked
 pub mod Cases
 pub mod PercentCases

@@ -14,6 +14,7 @@ use Rattle.rules.specs.Records.{Rec, codeOk, classes, classOk, sizeOk, A
 use Rattle.rules.specs.Records.{full-size, advanceKind, advanceFits, advanceOk, groupOk, recOk, badRecord}
 use Rattle.rules.specs.Sides.{sideBy}
 use Rattle.rules.specs.Values.{SideOk}
+use Rattle.rules.proofs.FirstFailing.{none-fails, passes-at}
 use Rattle.rules.proofs.Bounds.{within-high, size-bounds}
 use Rattle.rules.proofs.Facts.{tested, true-false, nil-cons, some-none}
 
@@ -91,15 +92,4 @@ side-ok r e =
 pub records-ok : (i : ℕ) (rs : List Rec) → badRecord i rs ≡ none → (k : ℕ) (r : Rec) (qs : List Rec) →
     drop k rs ≡ r ∷ qs → recOk r ≡ true
 unfolding badRecord
-records-ok i [] h zero r qs e = absurd (nil-cons e)
-records-ok i [] h (suc k) r qs e = absurd (nil-cons e)
-records-ok i (p ∷ rs) h k r qs e =
-    elim (tested (recOk p)) [
-      | inl z ↦ from k e z (records-ok (suc i) rs (rw (z, badRecord) at h))
-      | inr z ↦ let f : some i ≡ none = rw (z, badRecord) at h in absurd (some-none f)
-    ]
-  where
-    from : (k : ℕ) → drop k (p ∷ rs) ≡ r ∷ qs → recOk p ≡ true →
-        ((k : ℕ) (r : Rec) (qs : List Rec) → drop k rs ≡ r ∷ qs → recOk r ≡ true) → recOk r ≡ true
-    from zero e z f = let q : p ≡ r = cc in rw (← q) z
-    from (suc k) e z f = f k r qs e
+records-ok i rs h = passes-at recOk (none-fails recOk i rs h)

@@ -1,6 +1,6 @@
 -- Ruby place refuses no ruby character of accepted records: a group has at most 16 records, each as wide as its size,
 -- which is at most 4,000. Assumes nothing.
-use mathlib.Core.Path.{_≡_, sym, _∙_}
+use mathlib.Core.Path.{_≡_, refl, sym, _∙_}
 use Prim.Native.Nat.{ℕ, suc, _*_, _≤_, _<_}
 use native.Mathlib.Omega.{arith}
 use mathlib.Core.Bool.{true}
@@ -105,5 +105,5 @@ rubies-placed rs h k =
 -- and so where the answer is 0
 pub accepted-placed : (m x : ℕ) (rs : List Rec) → judged m x rs .number ≡ 0 → All RubyPlaced (units rs)
 accepted-placed m x rs e =
-    let p = judged-passes m x rs 0 (λ z. omega (arith, z)) (λ z. omega (arith, z)) e in
-    rubies-placed rs (p .0) (p .1)
+    let p = judged-passes m x rs 0 refl e in
+    rubies-placed rs (p .records) (p .groups)

@@ -6,13 +6,15 @@
 --   joined       runs, one after the other, as one list
 --   cut          a list cut between each two neighbours that a test does not tie
 --   first of     the first row of a table whose test holds, or what stands under the table
+--   first failing    the place of the first element of a list that fails a test
 --   zeros        words past a count
 --   tabled       the list of a definition's values, number after number
 --
 -- Assumes nothing.
 use Prim.Native.Nat.{ℕ, zero, suc, _-_}
-use mathlib.Core.Bool.{Bool, false, cond, _&&_, _||_}
+use mathlib.Core.Bool.{Bool, true, false, cond, _&&_, _||_}
 use mathlib.Core.List.{List, [], _∷_, _++_}
+use mathlib.Core.Option.{Option, none, some}
 use lib.Dec.{leb, eqb}
 use lib.ListN.{length, replicate}
 
@@ -55,6 +57,11 @@ cut t (a ∷ bs) = tie t a (cut t bs)
 abbrev pub firstOf : {A : Type 0} → List (Bool × A) → A → A
 firstOf [] a = a
 firstOf (row ∷ rows) a = cond (row .0) (row .1) (firstOf rows a)
+
+-- counted from i
+unfoldable pub firstFailing : {A : Type 0} → (A → Bool) → ℕ → List A → Option ℕ
+firstFailing t i [] = none
+firstFailing t i (a ∷ bs) = elim (t a) [ true ↦ firstFailing t (suc i) bs | false ↦ some i ]
 
 -- shut, since at a numeral it would be written out, zero by zero
 unfoldable pub zeros : ℕ → List ℕ

@@ -1,8 +1,10 @@
 -- One name for all the rules' definitions: a claim that the checker computes says `unfolding computed`.
 -- Assumes nothing.
-use Rattle.rules.specs.Basics.{joined, cut, zeros}
+use Rattle.lists.specs.Lists.{lists, inList}
+use Rattle.rules.specs.Basics.{joined, cut, firstFailing, zeros}
 use Rattle.rules.specs.Records.{codeOk, classes, classOk, rowOf, sizeOk, advanceKind, advanceOk, groupOk, recOk}
 use Rattle.rules.specs.Records.{badRecord, records, recordWords}
+use Rattle.rules.specs.Listed.{isListed, notListed}
 use Rattle.rules.specs.Space.{ruleOf, measured, spaceBy, spaceOf}
 use Rattle.rules.specs.Sides.{sideBy, forbidden}
 use Rattle.rules.specs.Gaps.{flexibility, gapBy, weight, gapOf}
@@ -20,7 +22,7 @@ use Rattle.rules.specs.Spacing.{entries, agrees, cellOf, spacingTable}
 use Rattle.rules.specs.Packed.{packed, unpacked, entryWords}
 
 unfoldable pub computed : Unit {0}
-unfolding joined cut zeros codeOk classes classOk rowOf sizeOk advanceKind advanceOk groupOk recOk badRecord
+unfolding lists inList joined cut firstFailing zeros isListed notListed codeOk classes classOk rowOf sizeOk advanceKind advanceOk groupOk recOk badRecord
     records recordWords badGroup groupFault units counts sideBy advances groupAdvance advance shift baseOffset
     offsets baseOffsets rubyOffset rubyPlace ruleOf measured spaceBy spaceOf forbidden flexibility gapBy weight
     gapOf smallest runs wideRun noBreaking filled breaking totals unitAdvances amounts amountsOf placed ending

@@ -8,13 +8,19 @@
 --   fits                 every line's smallest width is within the measure, the first line's with the indent
 --   longest              no longer line that ends at a permitted break or the paragraph's end fits
 --   ruby placed          ruby place refuses no ruby character of a unit
+--   listed               a record's code point stands in the list of its class (document 02, request 04)
+--   first lacking        the first element of a list that lacks a property
 --
 -- Assumes nothing.
 use mathlib.Core.Path.{_≡_}
 use Prim.Native.Nat.{ℕ, _+_, _≤_, _<_}
 use mathlib.Core.Bool.{Bool, true, false}
 use mathlib.Core.List.{List, [], _∷_, _++_}
+use lib.ListN.{length}
+use Rattle.lists.specs.Lists.{lists}
+use Rattle.lists.specs.Meanings.{Belongs}
 use Rattle.rules.specs.Basics.{Run, whole, then, joined}
+use Rattle.rules.specs.Records.{Rec}
 use Rattle.rules.specs.Gaps.{Gap, least}
 use Rattle.rules.specs.Groups.{TextUnit, counts, baseTotal, rubyOk, rubyOffset, rubyPlace}
 use Rattle.rules.specs.Breaks.{bound, width, gap}
@@ -24,6 +30,19 @@ use Rattle.rules.specs.Adjustment.{plus, nothing, Amounts, share, adjust
 pub data All {A : Type 0} (P : A → Type 0) : List A → Type 0 where
   all-none : All P []
   all-more : {a : A} {bs : List A} → P a → All P bs → All P (a ∷ bs)
+
+-- the first of the elements ps that lacks the property stands at i
+pub record FirstLacking {A : Type 0} (P : A → Type 0) (ps : List A) (i : ℕ) : Type 0 where
+  pub before : List A
+  pub here : A
+  pub after : List A
+  pub all : before ++ (here ∷ after) ≡ ps
+  pub have : All P before
+  pub lacks : P here → ⊥
+  pub place : i ≡ length before
+
+abbrev pub Listed : Rec → Type 0
+Listed r = Belongs (r .class) (r .code) lists
 
 abbrev pub lastOf : {A : Type 0} → A → List A → A
 lastOf a [] = a

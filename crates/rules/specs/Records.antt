@@ -11,12 +11,12 @@
 --
 -- Assumes nothing.
 use Prim.Native.Nat.{ℕ, zero, suc, _+_, _*_, _/_, _%_}
-use mathlib.Core.Bool.{Bool, true, false, cond, not, _&&_}
+use mathlib.Core.Bool.{Bool, cond, not, _&&_}
 use mathlib.Core.List.{List, [], _∷_}
-use mathlib.Core.Option.{Option, none, some}
+use mathlib.Core.Option.{Option}
 use lib.Dec.{leb, eqb}
 use lib.ListN.{getD}
-use Rattle.rules.specs.Basics.{isIn, within}
+use Rattle.rules.specs.Basics.{isIn, within, firstFailing}
 
 pub record Rec : Type 0 where
   pub code : ℕ
@@ -84,8 +84,7 @@ recOk r =
 
 -- answer 8: the first record, counted from i, that breaks its own rules
 unfoldable pub badRecord : ℕ → List Rec → Option ℕ
-badRecord i [] = none
-badRecord i (r ∷ rs) = elim (recOk r) [ true ↦ badRecord (suc i) rs | false ↦ some i ]
+badRecord i rs = firstFailing recOk i rs
 
 abbrev pub recOf : ℕ → ℕ → ℕ → ℕ → ℕ → ℕ → Rec
 recOf c k s a g n = record { code = c; class = k; size = s; advance = a; group = g; ruby = n }

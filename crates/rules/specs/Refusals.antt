@@ -3,7 +3,7 @@
 --
 --   answer       a number and a place; success is 0 and the line count (set-up: 0 and P)
 --   outcome      what a call answers, and the words afterwards; "Every refusal leaves the whole sheet unchanged."
---   judged       answers 8, 9 and 10 of records in a measure
+--   judged       answers 8, 12, 9 and 10 of records in a measure; 12 is request 04's
 --   sound        a slot to which answer 4 does not apply
 --   splice       the named stretch of records replaced
 --   lines redone    the lines that an edit composes anew (document 02, request 03)
@@ -18,6 +18,7 @@ use lib.Dec.{leb, ltb, eqb}
 use lib.ListN.{length, take, drop, getD}
 use Rattle.rules.specs.Basics.{firstOf}
 use Rattle.rules.specs.Records.{Rec, records, badRecord}
+use Rattle.rules.specs.Listed.{notListed}
 use Rattle.rules.specs.Groups.{groupFault, units}
 use Rattle.rules.specs.Breaks.{noBreaking}
 use Rattle.rules.specs.Adjustment.{compose}
@@ -53,21 +54,23 @@ reporting a redone = editSays (a .number) (a .place) (cond (eqb (a .number) 0) r
 abbrev pub Outcome : Type 0 → Type 0
 Outcome A = A × List ℕ
 
--- 8, 9, 10 and 11 name a place where they apply
+-- 8 to 12 name a place where they apply
 abbrev pub orElse : ℕ → Option ℕ → Answer → Answer
 orElse n none a = a
 orElse n (some i) a = says n i
 
--- records in a measure m with an indent x: 8, 9, 10, or 0 and the line count
+-- records in a measure m with an indent x: 8, 12, 9, 10, or 0 and the line count. "New answer 12, checked after 8 and
+-- before 9"
 unfoldable pub judged : ℕ → ℕ → List Rec → Answer
 judged m x rs =
     orElse 8 (badRecord 0 rs)
+    (orElse 12 (notListed 0 rs)
     (orElse 9 (groupFault rs)
     (orElse 10 (noBreaking m x (units rs))
-    (says 0 (length (compose m x (units rs))))))
+    (says 0 (length (compose m x (units rs)))))))
 
 -- 4: "the slot's measure or indent is out of limits, its count is over 256, or its stored records fall under 8, 9 or
--- 10"
+-- 10"; "Answer 4 covers 12 too"
 unfoldable pub sound : List ℕ → Bool
 sound s =
     limitsOk (measureOf s) (indentOf s) && leb (countOf s) 256

@@ -5,6 +5,7 @@ use native.Mathlib.Omega.{arith}
 use mathlib.Core.List.{List}
 use mathlib.Core.Option.{Option, none, some}
 use Rattle.rules.specs.Records.{Rec, badRecord}
+use Rattle.rules.specs.Listed.{notListed}
 use Rattle.rules.specs.Groups.{groupFault, units}
 use Rattle.rules.specs.Breaks.{noBreaking}
 use Rattle.rules.specs.Refusals.{Answer, says, orElse, judged, badSlot, setUpRows, setUpAnswer}
@@ -19,8 +20,9 @@ pub judged-not-4 : (m x : ℕ) (rs : List Rec) → judged m x rs .number ≡ 4 �
 unfolding judged
 judged-not-4 m x rs =
     else-not-4 8 (badRecord 0 rs) _ (λ e. omega arith)
+    (else-not-4 12 (notListed 0 rs) _ (λ e. omega arith)
     (else-not-4 9 (groupFault rs) _ (λ e. omega arith)
-    (else-not-4 10 (noBreaking m x (units rs)) _ (λ e. omega arith) (λ e. omega arith)))
+    (else-not-4 10 (noBreaking m x (units rs)) _ (λ e. omega arith) (λ e. omega arith))))
 
 pub set-up-not-4 : (n : ℕ) (cs ms xs : List ℕ) → setUpAnswer n cs ms xs .number ≡ 4 → ⊥
 unfolding setUpRows setUpAnswer

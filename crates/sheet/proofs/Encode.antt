@@ -10,7 +10,8 @@ use mathlib.Core.Option.{none, some}
 use lib.ListN.{length, getD, take, drop, set, length-append, List·getD-eq-default}
 use lib.Seq.{take-at, drop-at, split-at, set-split, length-take-le}
 use Rattle.rules.specs.Records.{badRecord}
-use Rattle.rules.specs.Basics.{cut}
+use Rattle.rules.specs.Basics.{cut, firstFailing}
+use Rattle.rules.specs.Listed.{notListed}
 use Rattle.rules.specs.Groups.{groupFault, units}
 use Rattle.rules.specs.Breaks.{runs, wideRun, noBreaking}
 use Rattle.rules.specs.Sheet.{Setting, clinicOf, slotLimitsOk, slotAt, withSlot}
@@ -122,7 +123,7 @@ clinic-of b h k =
 -- What set-up leaves ------------------------------------------------------------------------------------------------
 
 pub none-right : (m x : ℕ) → judged m x [] .number ≡ 0
-unfolding judged badRecord groupFault noBreaking wideRun runs units cut
+unfolding judged badRecord notListed firstFailing groupFault noBreaking wideRun runs units cut
 none-right m x = refl
 
 pub sound-none : (t : Setting) → slotLimitsOk t ≡ true → Sound (record { setting = t; records = [] })

@@ -3,12 +3,12 @@
 use mathlib.Core.Path.{_≡_, refl, sym, ap, _∙_}
 use Prim.Native.Nat.{ℕ}
 use native.Mathlib.Omega.{arith}
-use mathlib.Core.Bool.{true}
-use mathlib.Core.List.{List}
+use mathlib.Core.Bool.{true, false}
+use mathlib.Core.List.{List, [], _∷_}
 use mathlib.Core.Logic.{_↔_}
 use mathlib.Core.Option.{Option, none, some}
 use lib.ListN.{length}
-use Rattle.rules.specs.Basics.{Run}
+use Rattle.rules.specs.Basics.{isIn, Run}
 use Rattle.rules.specs.Records.{Rec}
 use Rattle.rules.specs.Groups.{TextUnit, units}
 use Rattle.rules.specs.Breaks.{runs, noBreaking}
@@ -73,19 +73,20 @@ module _ (ws : List ℕ) (caller k place deleted : ℕ) (inserted : List ℕ) wh
 
   -- a number that no earlier row gives is given only where none of them is due
   none-due : (n : ℕ) → lacking n (callRows ws caller k) ≡ true →
-      lacking n (slotRows before place deleted inserted) ≡ true → (n ≡ 8 → ⊥) → (n ≡ 9 → ⊥) →
+      lacking n (slotRows before place deleted inserted) ≡ true → isIn n (8 ∷ 12 ∷ 9 ∷ []) ≡ false →
       out .0 .number ≡ n → NoneDue
   unfolding editSlot
-  none-due n l r h i z =
+  none-due n l r h z =
       let rows = slotRows before place deleted inserted in
       let f = from-slot ws caller k place deleted inserted n l z in
       let p = passed n rows (judged m x new) r (f .number) in
-      let j = judged-passes m x new n h i (p .1) in
+      let j = judged-passes m x new n h (p .1) in
       record {
         call = f .entry;
         slot = same-number (under-table rows (says 0 0) (p .0));
-        records = j .0;
-        groups = j .1;
+        records = j .records;
+        listed = j .listed;
+        groups = j .groups;
       }
 
   -- and where none of them is due, the answer is that of the breaking
@@ -94,7 +95,7 @@ module _ (ws : List ℕ) (caller k place deleted : ℕ) (inserted : List ℕ) wh
   due-10 h =
       let rows = slotRows before place deleted inserted in
       ap (λ (o : Outcome EditAnswer). o .0 .number) (on-entering asEdit ws caller k here (h .call))
-      ∙ same-number (under-table rows _ (passed 0 rows (says 0 0) refl (h .slot) .0)) ∙ rw (h .records, h .groups)
+      ∙ same-number (under-table rows _ (passed 0 rows (says 0 0) refl (h .slot) .0)) ∙ rw (h .records, h .listed, h .groups)
 
   by-breaking : (o : Option ℕ) → noBreaking m x us ≡ o →
       out .0 .number ≡ orElse 10 o (says 0 (length (compose m x us))) .number →
@@ -118,13 +119,13 @@ module _ (ws : List ℕ) (caller k place deleted : ℕ) (inserted : List ℕ) wh
   pub exactly-10 : (out .0 .number ≡ 10) ↔ (NoneDue × (Breakable → ⊥))
   unfolding callRows slotRows
   exactly-10 = (
-    λ z. let e = none-due 10 refl refl (λ t. omega (arith, t)) (λ t. omega (arith, t)) z in (e, exactly e .0 .0 z),
+    λ z. let e = none-due 10 refl refl refl z in (e, exactly e .0 .0 z),
     λ h. exactly (h .0) .0 .1 (h .1),
   )
 
   pub exactly-0 : (out .0 .number ≡ 0) ↔ (NoneDue × Breakable)
   unfolding callRows slotRows
   exactly-0 = (
-    λ z. let e = none-due 0 refl refl (λ t. omega (arith, t)) (λ t. omega (arith, t)) z in (e, exactly e .1 .0 z),
+    λ z. let e = none-due 0 refl refl refl z in (e, exactly e .1 .0 z),
     λ h. exactly (h .0) .1 .1 (h .1),
   )

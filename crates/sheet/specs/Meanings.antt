@@ -18,6 +18,7 @@ use lib.Dec.{leb}
 use lib.ListN.{length}
 use Rattle.rules.specs.Basics.{firstOf}
 use Rattle.rules.specs.Records.{Rec, badRecord, recordWords}
+use Rattle.rules.specs.Listed.{notListed}
 use Rattle.rules.specs.Groups.{groupFault, units}
 use Rattle.rules.specs.Adjustment.{compose}
 use Rattle.rules.specs.Sheet.{slotWords, clinicOf, measureOf, indentOf, settingOf, recordsOf, lengthOk, slotAt}
@@ -53,12 +54,13 @@ LeftAlike (call-on c k q) a ws left right =
     beyond (length ws) (k .0) ≡ false → (c .0 ≡ 0 → ⊥) → c .0 ≡ clinicOf (slotAt ws (k .0)) →
     slotAt left (k .0) ≡ slotAt right (k .0)
 
--- no answer before 10 is due on an edit: the rows 1 to 3 and 4 to 7 do not apply, and no record that would result
--- breaks its own rules or its group's
+-- no answer before 10 is due on an edit: the rows 1 to 3 and 4 to 7 do not apply, and each record that would result
+-- keeps its own rules, stands in the list of its class and keeps its group's rules
 pub record NoEarlier (ws : List ℕ) (caller k place deleted : ℕ) (inserted : List ℕ) : Type 0 where
   pub call : called ws caller k .number ≡ 0
   pub slot : firstOf (slotRows (slotAt ws k) place deleted inserted) (says 0 0) .number ≡ 0
   pub records : badRecord 0 (edited (slotAt ws k) place deleted inserted) ≡ none
+  pub listed : notListed 0 (edited (slotAt ws k) place deleted inserted) ≡ none
   pub groups : groupFault (edited (slotAt ws k) place deleted inserted) ≡ none
 
 -- a slot s becomes t by an accepted edit with answer a: its records are the old ones with exactly the named stretch

@@ -4,13 +4,13 @@ use Prim.Native.Nat.{_-_}
 use denote.Ref.{now}
 use borrow.Author.Needs.{needs}
 use borrow.Author.Tests.{not-true, not-false}
-use Rattle.rules.specs.Records.{recAt, recOk}
-use Rattle.compose.proofs.Faults.{Sound, sound-start, sound-more, sound-bad, sound-end}
+use Rattle.rules.specs.Records.{recAt, recOk, badRecord}
+use Rattle.compose.proofs.Faults.{Passed, passed-start, passed-more, passed-not, passed-end}
 use Rattle.compose.proofs.checks.first_bad_record.Statement.{statement}
 use Rattle.compose.proofs.checks.first_bad_record.Tie as tie
 
 abbrev Inv-loop : tie.InvT-loop
-Inv-loop ws n classes i₀ i = Sound ws i
+Inv-loop ws n classes i₀ i = Passed recOk ws i
 
 abbrev μ-loop : tie.MeasureT-loop
 μ-loop ws n classes i₀ i = n - i
@@ -25,7 +25,7 @@ class-table-requires : tie.Need-class-table-requires Inv-loop μ-loop
 class-table-requires c κs = search needs
 
 loop-holds : tie.Need-loop-holds Inv-loop μ-loop
-loop-holds c = sound-start
+loop-holds c = passed-start
 
 record-at-requires : tie.Need-record-at-requires Inv-loop μ-loop
 record-at-requires c κs = search needs
@@ -34,9 +34,10 @@ record-ok-requires : tie.Need-record-ok-requires Inv-loop μ-loop
 record-ok-requires c κs = search needs
 
 returns : tie.Need-returns Inv-loop μ-loop
+unfolding badRecord
 returns c =
     let d = c .before .before .before .before in
-    sound-bad (d .loop-test .taken) (judged (c .before) ∙ not-true _ (c .if1 .taken)) (d .before .loop .inv)
+    passed-not (d .loop-test .taken) (judged (c .before) ∙ not-true _ (c .if1 .taken)) (d .before .loop .inv)
 
 add-i : tie.Need-add-i Inv-loop μ-loop
 add-i c = search needs
@@ -47,10 +48,11 @@ loop-less c = search needs
 loop-again : tie.Need-loop-again Inv-loop μ-loop
 loop-again c =
     let d = c .before .before .before .before in
-    sound-more (d .loop-test .taken) (judged (c .before) ∙ not-false _ (c .if1 .left)) (d .before .loop .inv)
+    passed-more (d .loop-test .taken) (judged (c .before) ∙ not-false _ (c .if1 .left)) (d .before .loop .inv)
 
 returns-2 : tie.Need-returns-2 Inv-loop μ-loop
-returns-2 c = sound-end (c .loop-test .left) (c .before .loop .inv)
+unfolding badRecord
+returns-2 c = passed-end (c .loop-test .left) (c .before .loop .inv)
 
 pub first-bad-record-spec : {M : Type 1} → statement M
 first-bad-record-spec =
