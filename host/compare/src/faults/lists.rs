@@ -68,6 +68,8 @@ pub fn wrong_lists() -> Vec<Mislisting> {
         let ends = [characters.chars().next(), characters.chars().last()];
         faults.extend(ends.into_iter().flatten().map(|character| Lost(class, character.into())));
     }
+    // A list of one character has both its ends there.
+    faults.dedup();
     for (index, block) in BLOCKS.into_iter().enumerate() {
         faults.extend([Lost(19, block.first), Lost(19, block.last)]);
         faults.extend([Gained(19, block.first - 1), Gained(19, block.last + 1)]);
