@@ -5,7 +5,7 @@ ghost use Rattle.rules.specs.Records.{recAt, badRecord};
 ghost use Rattle.rules.specs.Listed.{notListed};
 ghost use Rattle.rules.specs.Groups.{joins, groupFault};
 ghost use Rattle.rules.specs.Values.{recordOf};
-ghost use Rattle.compose.specs.Paragraph.{size, paragraph, placeOr};
+ghost use Rattle.compose.specs.Paragraph.{size, paragraph, ListedBut, placeOr};
 use lists::in_list;
 use rules::Record;
 use rules::class_table;
@@ -44,13 +44,15 @@ pub(crate) fn first_bad_record(ws: &[u32]) -> usize
     n
 }
 
-// The first record whose class's list lacks its code point, or how many there are.
-pub(crate) fn first_not_listed(ws: &[u32]) -> usize
+// The first record whose class's list lacks its code point, or how many there are. Only the new records are asked,
+// those from `start` up to `end`: the others are known to be listed.
+pub(crate) fn first_not_listed(ws: &[u32], start: usize, end: usize) -> usize
+    requires { ⌜ ListedBut (now ws) start end ⌝ }
     ensures { λ r. ⌜ r ≡ placeOr (size (now (ws .entry))) (notListed 0 (paragraph (now (ws .entry)))) ⌝ }
 {
     let n = ws.len() / 6;
-    let mut i = 0;
-    while i < n {
+    let mut i = start;
+    while i < end {
         let r = record_at(ws, i);
         if !in_list(r.class, r.code) {
             return i;

@@ -1,7 +1,7 @@
 // A paragraph judged and composed.
 ghost use mathlib.Core.Path.{_≡_};
 ghost use Prim.Native.Nat.{_≤_};
-ghost use Rattle.compose.specs.Paragraph.{size, Checked};
+ghost use Rattle.compose.specs.Paragraph.{size, ListedBut, Checked};
 ghost use Rattle.compose.specs.Composed.{Fitting, RecordsJudged, Filled, Judged, Lined, Started, Composed};
 use crate::breaking::break_lines;
 use crate::breaking::first_wide_run;
@@ -29,9 +29,10 @@ fn says(number: u32, place: usize) -> Answer
     }
 }
 
-// Answers 8, 12 and 9 of a paragraph, which no measure changes; or 0.
-fn check_records(ws: &[u32]) -> Answer
-    requires { ⌜ size (now ws) ≤ 256 ⌝ }
+// Answers 8, 12 and 9 of a paragraph, which no measure changes; or 0. Records other than those from `start` up to
+// `end` are known to be listed.
+fn check_records(ws: &[u32], start: usize, end: usize) -> Answer
+    requires { ⌜ (size (now ws) ≤ 256) × ListedBut (now ws) start end ⌝ }
     ensures { λ r. ⌜ RecordsJudged (now (ws .entry)) (r .number) (r .place) ⌝ }
 {
     let n = ws.len() / 6;
@@ -39,7 +40,7 @@ fn check_records(ws: &[u32]) -> Answer
     if bad < n {
         return says(8, bad);
     }
-    let lacking = first_not_listed(ws);
+    let lacking = first_not_listed(ws, start, end);
     if lacking < n {
         return says(12, lacking);
     }
@@ -62,17 +63,19 @@ fn fill_tables(ws: &[u32], units: &mut [u32; 768], gaps: &mut [u64; 256], runs: 
 // Answers 8, 12, 9 and 10 of a paragraph, in the measure `m` with the indent `x`; or 0, and the tables are filled.
 fn judge(
     ws: &[u32],
+    start: usize,
+    end: usize,
     m: u32,
     x: u32,
     units: &mut [u32; 768],
     gaps: &mut [u64; 256],
     runs: &mut [u32; 768],
 ) -> Answer
-    requires { ⌜ Fitting (now ws) m x ⌝ }
+    requires { ⌜ Fitting (now ws) m x × ListedBut (now ws) start end ⌝ }
     ensures { λ r. ⌜ Judged (now (ws .entry)) m x (now (units .exit)) (now (gaps .exit)) (now (runs .exit))
         (r .number) (r .place) ⌝ }
 {
-    let a = check_records(ws);
+    let a = check_records(ws, start, end);
     if a.number != 0 {
         return a;
     }
@@ -88,6 +91,8 @@ fn judge(
 // each line stands in `starts`.
 fn judge_and_break(
     ws: &[u32],
+    start: usize,
+    end: usize,
     m: u32,
     x: u32,
     units: &mut [u32; 768],
@@ -95,11 +100,11 @@ fn judge_and_break(
     runs: &mut [u32; 768],
     starts: &mut [u32; 256],
 ) -> Answer
-    requires { ⌜ Fitting (now ws) m x ⌝ }
+    requires { ⌜ Fitting (now ws) m x × ListedBut (now ws) start end ⌝ }
     ensures { λ r. ⌜ Lined (now (ws .entry)) m x (now (units .exit)) (now (gaps .exit)) (now (runs .exit))
         (now (starts .exit)) (r .number) (r .place) ⌝ }
 {
-    let a = judge(ws, m, x, units, gaps, runs);
+    let a = judge(ws, start, end, m, x, units, gaps, runs);
     if a.number != 0 {
         return a;
     }
@@ -116,19 +121,32 @@ pub fn check(ws: &[u32], m: u32, x: u32, starts: &mut [u32; 256]) -> Answer
     let mut units = [0u32; 768];
     let mut gaps = [0u64; 256];
     let mut runs = [0u32; 768];
-    judge_and_break(ws, m, x, &mut units, &mut gaps, &mut runs, starts)
+    judge_and_break(
+        ws,
+        0,
+        ws.len() / 6,
+        m,
+        x,
+        &mut units,
+        &mut gaps,
+        &mut runs,
+        starts,
+    )
 }
 
-// Composes a paragraph. Where it is accepted its place words and line words stand at the front of `places` and
-// `lines`, and the answer is 0 and the line count.
+// Composes a paragraph, of which the records from `start` up to `end` are new and the others known to be listed. Where
+// it is accepted its place words and line words stand at the front of `places` and `lines`, and the answer is 0 and the
+// line count.
 pub fn compose(
     ws: &[u32],
+    start: usize,
+    end: usize,
     m: u32,
     x: u32,
     places: &mut [u32; 512],
     lines: &mut [u32; 768],
 ) -> Answer
-    requires { ⌜ Fitting (now ws) m x ⌝ }
+    requires { ⌜ Fitting (now ws) m x × ListedBut (now ws) start end ⌝ }
     ensures { λ r. ⌜ Composed (now (ws .entry)) m x (now (places .entry)) (now (lines .entry))
         (now (places .exit)) (now (lines .exit)) (r .number) (r .place) ⌝ }
 {
@@ -136,7 +154,17 @@ pub fn compose(
     let mut gaps = [0u64; 256];
     let mut runs = [0u32; 768];
     let mut starts = [0u32; 256];
-    let a = judge_and_break(ws, m, x, &mut units, &mut gaps, &mut runs, &mut starts);
+    let a = judge_and_break(
+        ws,
+        start,
+        end,
+        m,
+        x,
+        &mut units,
+        &mut gaps,
+        &mut runs,
+        &mut starts,
+    );
     if a.number == 0 {
         place_lines(
             ws,

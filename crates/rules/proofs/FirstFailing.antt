@@ -8,7 +8,7 @@ use mathlib.Core.Bool.{Bool, true, false}
 use mathlib.Core.List.{List, [], _∷_, _++_}
 use mathlib.Core.Logic.{inl, inr}
 use mathlib.Core.Option.{none, some}
-use lib.ListN.{length, drop}
+use lib.ListN.{length, take, drop}
 use Rattle.rules.specs.Basics.{firstFailing}
 use Rattle.rules.specs.Meanings.{All, all-none, all-more, FirstLacking}
 use Rattle.rules.proofs.Facts.{tested, true-false, nil-cons, some-none, some-same}
@@ -30,6 +30,16 @@ module _ {A : Type 0} (t : A → Bool) where
   unfolding firstFailing
   all-pass i all-none = refl
   all-pass i (all-more e h) = rw (firstFailing, e) (all-pass (suc i) h)
+
+  -- the search goes on past elements that pass
+  pub pass-over : (i k : ℕ) (ps : List A) → k ≤ length ps → All Passes (take k ps) →
+      firstFailing t i ps ≡ firstFailing t (i + k) (drop k ps)
+  unfolding firstFailing
+  pass-over i zero ps h a = let e : i + 0 ≡ i = omega arith in rw e
+  pass-over i (suc k) [] h a = absurd (omega arith)
+  pass-over i (suc k) (p ∷ ps) h (all-more e a) =
+      let n : suc i + k ≡ i + suc k = omega arith in
+      rw (firstFailing, e, ← n) (pass-over (suc i) k ps (omega arith) a)
 
   -- the element before which k stand
   pub passes-at : {ps : List A} → All Passes ps → (k : ℕ) (a : A) (bs : List A) → drop k ps ≡ a ∷ bs → Passes a

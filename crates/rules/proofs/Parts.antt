@@ -1,9 +1,11 @@
 -- Laws of `cut` on a part of a list: what stands before a boundary, what stands after it, and what a longer list
 -- changes. Assumes nothing.
 use mathlib.Core.Path.{_≡_, refl, ap, sym, _∙_}
+use Prim.Native.Nat.{ℕ, zero, suc}
 use mathlib.Core.Bool.{Bool, true, false}
 use mathlib.Core.List.{List, [], _∷_, _++_}
 use mathlib.Core.Logic.{inl, inr}
+use lib.ListN.{take, drop}
 use Rattle.rules.specs.Basics.{Run, joined, tie, cut}
 use Rattle.rules.specs.Meanings.{All, all-none, all-more, lastIn, Apart, apart-none, apart-one}
 use Rattle.rules.specs.Meanings.{apart-more}
@@ -19,6 +21,16 @@ all-front (p ∷ ps) qs (all-more h g) = all-more h (all-front ps qs g)
 pub all-back : {A : Type 0} {P : A → Type 0} (ps qs : List A) → All P (ps ++ qs) → All P qs
 all-back [] qs h = h
 all-back (p ∷ ps) qs (all-more h g) = all-back ps qs g
+
+pub all-take : {A : Type 0} {P : A → Type 0} {ps : List A} → All P ps → (k : ℕ) → All P (take k ps)
+all-take h zero = all-none
+all-take all-none (suc k) = all-none
+all-take (all-more h g) (suc k) = all-more h (all-take g k)
+
+pub all-drop : {A : Type 0} {P : A → Type 0} {ps : List A} → All P ps → (k : ℕ) → All P (drop k ps)
+all-drop h zero = h
+all-drop all-none (suc k) = all-none
+all-drop (all-more h g) (suc k) = all-drop g k
 
 pub all-first : {A : Type 0} {P : A → Type 0} {p : A} {ps : List A} → All P (p ∷ ps) → P p
 all-first (all-more h g) = h

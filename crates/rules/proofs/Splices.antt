@@ -4,7 +4,7 @@ use Prim.Native.Nat.{ℕ, _+_, _-_, _≤_}
 use native.Mathlib.Omega.{arith}
 use mathlib.Core.List.{List, _++_, append-assoc}
 use lib.ListN.{length, take, drop}
-use lib.Seq.{length-take-le, take-append-add, drop-append-add, drop-drop}
+use lib.Seq.{take-at, length-take-le, take-append-add, drop-append-add, drop-drop}
 use Rattle.rules.specs.Records.{Rec}
 use Rattle.rules.specs.Refusals.{splice}
 
@@ -22,6 +22,12 @@ splice-after rs place deleted new i h g =
     ∙ drop-append-add new qs w ∙ drop-drop w (place + deleted) rs ∙ ap (λ j. drop j rs) q
 
 -- records before the place stay
+pub splice-front : (rs : List Rec) (place deleted : ℕ) (new : List Rec) → place ≤ length rs →
+    take place (splice rs place deleted new) ≡ take place rs
+unfolding splice
+splice-front rs place deleted new h =
+    take-at (take place rs) (new ++ drop (place + deleted) rs) place (length-take-le place rs h)
+
 pub splice-before : (ps bs qs : List Rec) (place deleted : ℕ) (new : List Rec) → length ps + length bs ≤ place →
     (es : List Rec) × (splice (ps ++ (bs ++ qs)) place deleted new ≡ ps ++ (bs ++ es))
 unfolding splice

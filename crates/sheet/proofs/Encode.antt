@@ -18,6 +18,7 @@ use Rattle.rules.specs.Sheet.{Setting, clinicOf, slotLimitsOk, slotAt, withSlot
 use Rattle.rules.specs.Refusals.{judged, settingAt, badSlot, freshSlots}
 use Rattle.rules.specs.Meanings.{All, all-none, all-more}
 use Rattle.rules.proofs.Facts.{tested, ordered, some-none}
+use Rattle.rules.proofs.Parts.{all-take}
 use Rattle.sheet.specs.Book.{BookSlot, bookAt, emptySlots, encodeSlot, encode}
 use Rattle.sheet.proofs.Entry.{clinic-at}
 use Rattle.rules.proofs.SlotWords.{length-slot, slot-setting, slot-fresh}
@@ -49,11 +50,6 @@ module _ {A : Type 0} {P : A → Type 0} where
   all-set all-none k a h = all-none
   all-set (all-more p ps) zero a h = all-more h ps
   all-set (all-more p ps) (suc k) a h = all-more p (all-set ps k a h)
-
-  all-take : {bs : List A} → All P bs → (k : ℕ) → All P (take k bs)
-  all-take ps zero = all-none
-  all-take all-none (suc k) = all-none
-  all-take (all-more p ps) (suc k) = all-more p (all-take ps k)
 
 -- Where the words stand ---------------------------------------------------------------------------------------------
 

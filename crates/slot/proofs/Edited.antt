@@ -9,12 +9,15 @@ use lib.ListN.{length, take, drop, length-append}
 use lib.Seq.{take-at, drop-at, length-take-le}
 use Rattle.rules.specs.Basics.{zeros}
 use Rattle.rules.specs.Records.{records}
-use Rattle.rules.specs.Sheet.{countOf, measureOf, indentOf, limitsOk}
-use Rattle.rules.specs.Refusals.{edited}
-use Rattle.compose.specs.Paragraph.{size, paragraph}
+use Rattle.rules.specs.Sheet.{countOf, measureOf, indentOf, recordsOf, limitsOk}
+use Rattle.rules.specs.Refusals.{splice, edited}
+use Rattle.rules.specs.Meanings.{All}
+use Rattle.compose.specs.Paragraph.{size, paragraph, IsListed, ListedBut}
 use Rattle.slot.specs.Slot.{spliced, Replaceable}
 use Rattle.slot.proofs.Stored.{old-room}
 use Rattle.slot.proofs.Spliced.{spliced-records, length-spliced}
+use Rattle.rules.proofs.Parts.{all-take, all-drop}
+use Rattle.rules.proofs.Splices.{splice-front, splice-after}
 use Rattle.rules.proofs.Words.{length-records}
 use Rattle.rules.proofs.Zeros.{length-zeros, drop-zeros}
 
@@ -63,11 +66,31 @@ module _ (s : List ℕ) (p d : ℕ) (ins : List ℕ) (len : length s ≡ 2824) (
             length-spliced (drop 8 s) ins (countOf s) p d (length ins / 6) (old-room s len few) within (omega arith),
           )
 
+  -- of its records only the inserted ones are new
+  words-listed : All IsListed (recordsOf s) → ListedBut list-words p (p + k)
+  unfolding total k
+  words-listed h =
+      let rs = recordsOf s in
+      let new = records ins 0 (length ins / 6) in
+      let r : length rs ≡ countOf s = length-records (drop 8 s) 0 (countOf s) in
+      let n : length new ≡ length ins / 6 = length-records ins 0 (length ins / 6) in
+      let a : take p (splice rs p d new) ≡ take p rs = splice-front rs p d new (omega (arith, r)) in
+      let q : p + length ins / 6 - length new + d ≡ p + d = omega (arith, n) in
+      let b : drop (p + length ins / 6) (splice rs p d new) ≡ drop (p + d) rs =
+      rw q at (splice-after rs p d new (p + length ins / 6) (omega (arith, r)) (omega (arith, n))) in
+      record {
+        order = omega arith;
+        inside = omega (arith, length-words);
+        before = rw (records-words, a) (all-take h p);
+        after = rw (records-words, b) (all-drop h (p + d));
+      }
+
   -- the list that the program makes: those words, and zeros
   pub record NewList (list : List ℕ) : Type 0 where
     pub replaceable : limitsOk (measureOf s) (indentOf s) ≡ true →
         Replaceable s list ((countOf s - d) * 6 + length ins)
     pub records : paragraph (take ((countOf s - d) * 6 + length ins) list) ≡ edited s p d ins
+    pub listed : All IsListed (recordsOf s) → ListedBut (take ((countOf s - d) * 6 + length ins) list) p (p + length ins / 6)
     pub new-few : length (edited s p d ins) ≤ 256
 
   pub new-list : (list : List ℕ) →
@@ -75,7 +98,7 @@ module _ (s : List ℕ) (p d : ℕ) (ins : List ℕ) (len : length s ≡ 2824) (
       spliced (take (8 + countOf s * 6 - 8) (drop 8 s)) (p * 6) ((p + d) * 6) ins
       ++ drop (p * 6 + length ins + (length (take (8 + countOf s * 6 - 8) (drop 8 s)) - (p + d) * 6)) (zeros 1536) →
       NewList list
-  unfolding list-words old total
+  unfolding list-words old total k
   new-list list e =
       let a : 8 + countOf s * 6 - 8 ≡ 6 * countOf s = omega arith in
       let b : p * 6 ≡ 6 * p = omega arith in
@@ -101,5 +124,7 @@ module _ (s : List ℕ) (p d : ℕ) (ins : List ℕ) (len : length s ≡ 2824) (
         records =
             ap (λ w. paragraph (take total w)) f
             ∙ ap (λ w. paragraph w) (take-at list-words (drop total (zeros 1536)) total length-words) ∙ records-words;
+        listed = λ h. rw (ap (λ w. take total w) f, take-at list-words (drop total (zeros 1536)) total length-words)
+            (words-listed h);
         new-few = rw (← records-words) (omega (arith, length-records list-words 0 (size list-words), length-words));
       }

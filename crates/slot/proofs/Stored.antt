@@ -7,7 +7,7 @@ use native.Mathlib.Omega.{arith}
 use lib.Dec.{leb, ltb, eqb}
 use lib.ListN.{length, take, drop, getD, length-drop}
 use lib.Seq.{length-take-le}
-use borrow.Author.Tests.{leb-true, ltb-true, le-leb, lt-leb, ne-eqb}
+use borrow.Author.Tests.{eqb-true, leb-true, ltb-true, le-leb, lt-leb, ne-eqb}
 use Rattle.rules.specs.Basics.{within}
 use Rattle.rules.specs.Records.{records}
 use Rattle.rules.specs.Sheet.{measureOf, indentOf, countOf, recordsOf, limitsOk}
@@ -17,8 +17,11 @@ use Rattle.rules.specs.Stable.{ruledLines}
 use Rattle.rules.proofs.Bounds.{within-high}
 use Rattle.rules.proofs.Limits.{and-left, and-right}
 use Rattle.rules.proofs.Words.{records-take}
-use Rattle.rules.proofs.Judged.{line-count}
-use Rattle.compose.specs.Paragraph.{size, paragraph}
+use Rattle.rules.specs.Listed.{isListed, notListed}
+use Rattle.rules.specs.Meanings.{All}
+use Rattle.rules.proofs.FirstFailing.{none-fails}
+use Rattle.rules.proofs.Judged.{judged-passes, line-count}
+use Rattle.compose.specs.Paragraph.{size, paragraph, IsListed}
 use Rattle.compose.specs.Composed.{Fitting}
 use Rattle.slot.specs.Slot.{StoredLines}
 
@@ -86,6 +89,12 @@ module _ (s : List ℕ) where
   sound-count e =
       leb-true (countOf s) 256 (and-right (limitsOk (measureOf s) (indentOf s)) (leb (countOf s) 256)
       (and-left (limitsOk (measureOf s) (indentOf s) && leb (countOf s) 256) _ e))
+
+  pub sound-listed : sound s ≡ true → All IsListed (recordsOf s)
+  unfolding sound notListed
+  sound-listed e =
+      let z = eqb-true _ 0 (and-right (limitsOk (measureOf s) (indentOf s) && leb (countOf s) 256) _ e) in
+      none-fails isListed 0 (recordsOf s) (judged-passes (measureOf s) (indentOf s) (recordsOf s) 0 refl z .listed)
 
 -- what is told of a slot's lines
 pub stored-damaged : (s starts : List ℕ) (number place : ℕ) → sound s ≡ false → (number ≡ 4) × (place ≡ 0) →

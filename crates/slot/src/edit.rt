@@ -1,8 +1,8 @@
-// An edit of one slot: answers 4 to 10, and every word of the slot written where it is accepted.
+// An edit of one slot: answers 4 to 10 and 12, and every word of the slot written where it is accepted.
 ghost use mathlib.Core.Path.{_≡_};
 ghost use lib.ListN.{length, take};
 ghost use Rattle.rules.specs.Refusals.{says, editSays, editSlot};
-ghost use Rattle.compose.specs.Paragraph.{paragraph};
+ghost use Rattle.compose.specs.Paragraph.{paragraph, ListedBut};
 ghost use Rattle.slot.specs.Redone.{Countable, Counted};
 ghost use Rattle.slot.specs.Slot.{StoredLines, replaced, Replaceable};
 use crate::redone::lines_redone;
@@ -64,9 +64,10 @@ fn stored_lines(words: &[u32], starts: &mut [u32; 256]) -> Answer
     a
 }
 
-// Composes the first `total` words of `list` as the slot's records and, where they are accepted, writes the slot.
-fn replace(words: &mut [u32], list: &[u32], total: usize) -> Answer
-    requires { ⌜ Replaceable (now words) (now list) total ⌝ }
+// Composes the first `total` words of `list` as the slot's records and, where they are accepted, writes the slot. Of
+// the records those from `start` up to `end` are new; the others were the slot's, and answer 4 has asked them.
+fn replace(words: &mut [u32], list: &[u32], total: usize, start: usize, end: usize) -> Answer
+    requires { ⌜ Replaceable (now words) (now list) total × ListedBut (take total (now list)) start end ⌝ }
     ensures { λ r. ⌜ (says (r .number) (r .place), now (words .exit)) ≡
         replaced (now (words .entry)) (paragraph (take total (now (list .entry)))) ⌝ }
 {
@@ -74,7 +75,7 @@ fn replace(words: &mut [u32], list: &[u32], total: usize) -> Answer
     let x = words[2];
     let mut places = [0u32; 512];
     let mut lines = [0u32; 768];
-    let a = compose(&list[0..total], m, x, &mut places, &mut lines);
+    let a = compose(&list[0..total], start, end, m, x, &mut places, &mut lines);
     if a.number == 0 {
         write_slot(words, (total / 6) as u32, a.place, list, &places, &lines);
     }
@@ -152,6 +153,7 @@ pub fn edit_slot(words: &mut [u32], place: u32, deleted: u32, inserted: &[u32]) 
         (place + deleted) as usize * 6,
         inserted,
     );
-    let a = replace(words, &list, kept + n);
+    let start = place as usize;
+    let a = replace(words, &list, kept + n, start, start + n / 6);
     counted(a, &starts, stored.place, words, place, deleted, n / 6)
 }

@@ -1,46 +1,48 @@
--- `compose::checks::first_not_listed` meets its contract: the records passed stand in the lists of their classes.
--- Assumes nothing.
+-- `compose::checks::first_not_listed` meets its contract: the records passed stand in the lists of their classes, and
+-- so do those that are not asked. Assumes nothing.
 use mathlib.Core.Path.{_≡_, ap, sym, _∙_}
 use Prim.Native.Nat.{_-_}
+use native.Mathlib.Omega.{arith}
 use denote.Ref.{now}
 use borrow.Author.Needs.{needs}
 use borrow.Author.Tests.{not-true, not-false}
 use Rattle.rules.specs.Records.{recAt}
-use Rattle.rules.specs.Listed.{isListed, notListed}
-use Rattle.compose.proofs.Faults.{Passed, passed-start, passed-more, passed-not, passed-end}
+use Rattle.rules.specs.Listed.{isListed}
+use Rattle.compose.proofs.Faults.{Asked, asked-start, asked-more, asked-not, asked-end}
 use Rattle.compose.proofs.checks.first_not_listed.Statement.{statement}
 use Rattle.compose.proofs.checks.first_not_listed.Tie as tie
 
 abbrev Inv-loop : tie.InvT-loop
-Inv-loop ws n i₀ i = Passed isListed ws i
+Inv-loop ws start end n i₀ i = Asked ws end i
 
 abbrev μ-loop : tie.MeasureT-loop
-μ-loop ws n i₀ i = n - i
+μ-loop ws start end n i₀ i = end - i
 
 -- what the two calls say of record i
-asked : (c : tie.After-in-list Inv-loop μ-loop) →
+told : (c : tie.After-in-list Inv-loop μ-loop) →
     let l = c .before .before .before in
     isListed (recAt (now (l .before .before .args .ws)) (l .loop .i)) ≡ c .in-list .result
 unfolding isListed
-asked c = sym (c .in-list .ensures ∙ ap isListed (c .before .record-at .ensures))
+told c = sym (c .in-list .ensures ∙ ap isListed (c .before .record-at .ensures))
 
 loop-holds : tie.Need-loop-holds Inv-loop μ-loop
-loop-holds c = passed-start
+loop-holds c = asked-start (c .before .pre)
+
+record-at-requires : tie.Need-record-at-requires Inv-loop μ-loop
+record-at-requires c κs = omega (arith, c .loop-test .taken, c .before .loop .inv .inside)
 
 returns : tie.Need-returns Inv-loop μ-loop
-unfolding notListed
 returns c =
     let d = c .before .before .before in
-    passed-not (d .loop-test .taken) (asked (c .before) ∙ not-true _ (c .if1 .taken)) (d .before .loop .inv)
+    asked-not (d .loop-test .taken) (told (c .before) ∙ not-true _ (c .if1 .taken)) (d .before .loop .inv)
 
 loop-again : tie.Need-loop-again Inv-loop μ-loop
 loop-again c =
     let d = c .before .before .before in
-    passed-more (d .loop-test .taken) (asked (c .before) ∙ not-false _ (c .if1 .left)) (d .before .loop .inv)
+    asked-more (d .loop-test .taken) (told (c .before) ∙ not-false _ (c .if1 .left)) (d .before .loop .inv)
 
 returns-2 : tie.Need-returns-2 Inv-loop μ-loop
-unfolding notListed
-returns-2 c = passed-end (c .loop-test .left) (c .before .loop .inv)
+returns-2 c = asked-end (c .loop-test .left) (c .before .loop .inv)
 
 pub first-not-listed-spec : {M : Type 1} → statement M
 first-not-listed-spec =
@@ -49,7 +51,7 @@ first-not-listed-spec =
     Inv-loop
     μ-loop
     loop-holds
-    (λ c κs. search needs)
+    record-at-requires
     (λ c κs. search needs)
     returns
     (λ c. search needs)

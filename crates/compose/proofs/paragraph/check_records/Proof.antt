@@ -60,7 +60,7 @@ returns-4 c =
       refused = λ z m x. absurd (z (c .says4 .ensures .0));
       accepted = λ z.
           record {
-            few = past-8 .before .before .before .pre;
+            few = past-8 .before .before .before .pre .0;
             sound = no-bad past-8;
             listed = all-listed (d .before);
             grouped = no-9 (words (past-8 .before)) (k .result) (c .before .if3 .left) (k .ensures);

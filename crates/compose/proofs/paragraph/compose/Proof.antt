@@ -21,14 +21,14 @@ place-lines-requires c κs =
       tabled = record { checked = a .checked; units = a .filled .units; gaps = a .filled .gaps };
       broken = b;
       fits = a .fits;
-      indent = s .pre .indent;
-      measure = s .pre .measure;
-      place-room = omega (arith, s .pre .few, p);
+      indent = s .pre .0 .indent;
+      measure = s .pre .0 .measure;
+      place-room = omega (arith, s .pre .0 .few, p);
       line-room = omega (
         arith,
         b .count,
         lines-within (now (s .args .ws)) (s .args .m) (s .args .x),
-        s .pre .few,
+        s .pre .0 .few,
         l,
       );
     }

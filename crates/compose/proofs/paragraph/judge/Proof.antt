@@ -30,7 +30,7 @@ fill-tables-requires c κs = checked (c .before .before .before)
 
 first-wide-run-requires : tie.Need-first-wide-run-requires
 first-wide-run-requires c κs =
-    let d = past-9 (c .before) in (checked d, c .before .fill-tables .ensures .runs, entry d .pre .indent)
+    let d = past-9 (c .before) in (checked d, c .before .fill-tables .ensures .runs, entry d .pre .0 .indent)
 
 returns-2 : tie.Need-returns-2
 returns-2 c =

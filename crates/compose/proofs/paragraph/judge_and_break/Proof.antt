@@ -20,7 +20,7 @@ break-lines-requires : tie.Need-break-lines-requires
 break-lines-requires c κs =
     let d = c .before .before in
     let a = judging d .judge .ensures .accepted (d .if1 .left) in
-    (a .checked, a .filled .runs, entry d .pre .indent, entry d .pre .measure)
+    (a .checked, a .filled .runs, entry d .pre .0 .indent, entry d .pre .0 .measure)
 
 says-requires : tie.Need-says-requires
 says-requires c κs =
@@ -29,7 +29,7 @@ says-requires c κs =
       arith,
       c .break-lines .ensures .count,
       lines-within (now (s .args .ws)) (s .args .m) (s .args .x),
-      s .pre .few,
+      s .pre .0 .few,
     )
 
 returns-2 : tie.Need-returns-2

@@ -14,7 +14,7 @@ use Rattle.slot.specs.Redone.{Starts}
 use Rattle.slot.specs.Slot.{replaced, Replaceable}
 use Rattle.slot.proofs.Replaced.{replaced-length}
 use Rattle.slot.proofs.Counted.{countable, counted-answer}
-use Rattle.slot.proofs.Stored.{sound-limits, sound-count, stored-0, stored-4}
+use Rattle.slot.proofs.Stored.{sound-limits, sound-count, sound-listed, stored-0, stored-4}
 use Rattle.slot.proofs.Outcomes.{refusals, refuses-4, refuses-5, refuses-5-end, refuses-6, refuses-7, replaces}
 use Rattle.slot.proofs.Edited.{NewList, new-list}
 use borrow.Author.Needs.{needs}
@@ -135,7 +135,14 @@ replaceable-at c =
     new-list-at c .replaceable (sound-limits (now (spliced c .args .words)) (is-sound-at (four c)))
 
 replace-requires : tie.Need-replace-requires
-replace-requires c κs = replaceable-at (c .before .before .before)
+replace-requires c κs =
+    let d = c .before .before .before in
+    (replaceable-at d, new-list-at d .listed (sound-listed (now (spliced d .args .words)) (is-sound-at (four d))))
+
+add-replace-2 : tie.Need-add-replace-2
+add-replace-2 c =
+    let d = c .before .before .before in
+    omega (arith, few-at (four d), within-at (five d), seven d .if5 .left)
 
 -- the old lines' first records, and what becomes of the slot
 starts-at : (c : tie.Else1) →
@@ -213,6 +220,7 @@ edit-slot-spec =
     (λ c κs. search needs)
     (λ c. search needs)
     (λ c. search needs)
+    add-replace-2
     replace-requires
     counted-requires
     (λ c. search needs)

@@ -17,8 +17,11 @@ use Rattle.slot.proofs.edit.replace.Tie as tie
 compose-requires : tie.Need-compose-requires
 compose-requires c κs =
     let s = c .before .before .before .before .before .before .before in
-    rw sub-zero (fitting _ _ _ (replaced-few (now (s .args .words)) (now (s .args .list)) (s .args .total) (s .pre))
-    (s .pre .limits))
+    let r = s .pre .0 in
+    rw sub-zero (
+      fitting _ _ _ (replaced-few (now (s .args .words)) (now (s .args .list)) (s .args .total) r) (r .limits),
+      s .pre .1,
+    )
 
 returns : tie.Need-returns
 unfolding zeros
@@ -27,7 +30,7 @@ returns c =
     c .before .before .before .before .before .before .before .before .before
     .before .before .before .before .before .before .before in
     let k = c .before .before .before .before .before .before .before .before .compose in
-    accepted-slot (now (s .args .words)) (now (s .args .list)) (s .args .total) (s .pre) _ _ _ (k .result .number)
+    accepted-slot (now (s .args .words)) (now (s .args .list)) (s .args .total) (s .pre .0) _ _ _ (k .result .number)
     (k .result .place)
     (c .before .before .before .before .before .before .if1 .taken)
     (rw sub-zero at (k .ensures))
