@@ -3,7 +3,7 @@
 --   fitting      at most 256 records, a measure and an indent within their limits
 --   records judged    the answer 8, 12 or 9 with its place, in any measure; or 0, and the records are checked
 --   filled       the tables are those of the paragraph
---   judged       the answer 8, 12, 9 or 10 with its place; or 0, and the tables are filled
+--   judged       the answer 10 with its place; or 0, and the tables are filled
 --   lined        the answer; where it is 0, the tables are filled and the lines broken
 --   started      the answer; where it is 0, the first record of each line is told
 --   composed     the answer; where it is 0, the place words and line words stand at the front of what stood there

@@ -60,25 +60,19 @@ fn fill_tables(ws: &[u32], units: &mut [u32; 768], gaps: &mut [u64; 256], runs: 
     fill_gaps_and_runs(ws, units, gaps, runs);
 }
 
-// Answers 8, 12, 9 and 10 of a paragraph, in the measure `m` with the indent `x`; or 0, and the tables are filled.
+// Answer 10 of a checked paragraph in the measure `m` with the indent `x`; or 0, and the tables are filled.
 fn judge(
     ws: &[u32],
-    start: usize,
-    end: usize,
     m: u32,
     x: u32,
     units: &mut [u32; 768],
     gaps: &mut [u64; 256],
     runs: &mut [u32; 768],
 ) -> Answer
-    requires { ⌜ Fitting (now ws) m x × ListedBut (now ws) start end ⌝ }
+    requires { ⌜ Fitting (now ws) m x × Checked (now ws) ⌝ }
     ensures { λ r. ⌜ Judged (now (ws .entry)) m x (now (units .exit)) (now (gaps .exit)) (now (runs .exit))
         (r .number) (r .place) ⌝ }
 {
-    let a = check_records(ws, start, end);
-    if a.number != 0 {
-        return a;
-    }
     fill_tables(ws, units, gaps, runs);
     let wide = first_wide_run(ws, runs, m, x);
     if wide < ws.len() / 6 {
@@ -87,12 +81,10 @@ fn judge(
     says(0, 0)
 }
 
-// Answers 8, 12, 9 and 10 of a paragraph; or 0 and its line count, and then the tables are filled and the first record of
+// Answer 10 of a checked paragraph; or 0 and its line count, and then the tables are filled and the first record of
 // each line stands in `starts`.
 fn judge_and_break(
     ws: &[u32],
-    start: usize,
-    end: usize,
     m: u32,
     x: u32,
     units: &mut [u32; 768],
@@ -100,11 +92,11 @@ fn judge_and_break(
     runs: &mut [u32; 768],
     starts: &mut [u32; 256],
 ) -> Answer
-    requires { ⌜ Fitting (now ws) m x × ListedBut (now ws) start end ⌝ }
+    requires { ⌜ Fitting (now ws) m x × Checked (now ws) ⌝ }
     ensures { λ r. ⌜ Lined (now (ws .entry)) m x (now (units .exit)) (now (gaps .exit)) (now (runs .exit))
         (now (starts .exit)) (r .number) (r .place) ⌝ }
 {
-    let a = judge(ws, start, end, m, x, units, gaps, runs);
+    let a = judge(ws, m, x, units, gaps, runs);
     if a.number != 0 {
         return a;
     }
@@ -118,20 +110,14 @@ pub fn check(ws: &[u32], m: u32, x: u32, starts: &mut [u32; 256]) -> Answer
     requires { ⌜ Fitting (now ws) m x ⌝ }
     ensures { λ r. ⌜ Started (now (ws .entry)) m x (now (starts .exit)) (r .number) (r .place) ⌝ }
 {
+    let a = check_records(ws, 0, ws.len() / 6);
+    if a.number != 0 {
+        return a;
+    }
     let mut units = [0u32; 768];
     let mut gaps = [0u64; 256];
     let mut runs = [0u32; 768];
-    judge_and_break(
-        ws,
-        0,
-        ws.len() / 6,
-        m,
-        x,
-        &mut units,
-        &mut gaps,
-        &mut runs,
-        starts,
-    )
+    judge_and_break(ws, m, x, &mut units, &mut gaps, &mut runs, starts)
 }
 
 // Composes a paragraph, of which the records from `start` up to `end` are new and the others known to be listed. Where
@@ -150,33 +136,27 @@ pub fn compose(
     ensures { λ r. ⌜ Composed (now (ws .entry)) m x (now (places .entry)) (now (lines .entry))
         (now (places .exit)) (now (lines .exit)) (r .number) (r .place) ⌝ }
 {
+    let a = check_records(ws, start, end);
+    if a.number != 0 {
+        return a;
+    }
     let mut units = [0u32; 768];
     let mut gaps = [0u64; 256];
     let mut runs = [0u32; 768];
     let mut starts = [0u32; 256];
-    let a = judge_and_break(
-        ws,
-        start,
-        end,
-        m,
-        x,
-        &mut units,
-        &mut gaps,
-        &mut runs,
-        &mut starts,
-    );
-    if a.number == 0 {
+    let b = judge_and_break(ws, m, x, &mut units, &mut gaps, &mut runs, &mut starts);
+    if b.number == 0 {
         place_lines(
             ws,
             &units,
             &gaps,
             &starts,
-            a.place as usize,
+            b.place as usize,
             m,
             x,
             places,
             lines,
         );
     }
-    a
+    b
 }
