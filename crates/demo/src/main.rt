@@ -76,12 +76,19 @@ fn write_care_note(sheet: &mut [u32]) {
     print_slot(sheet, Clinic(8), SlotNumber(1));
 }
 
+// Inserts a comma of a class and an advance before record 27 of slot 0.
+fn insert_comma(sheet: &mut [u32], class: u32, advance: u32) {
+    let comma = [0x3001, class, SIZE, advance, 0, 0];
+    print_edit(sheet::edit(sheet, Clinic(7), SlotNumber(0), 27, 0, &comma));
+}
+
 fn try_refused_edits(sheet: &mut [u32]) {
     say(b"\nClinic 8 changes the dose in slot 0.\n");
     write(sheet, Clinic(8), SlotNumber(0), 17, 3, &NEW_DOSE, NO_RUBY);
     say(b"Clinic 7 inserts a comma that is as wide as a kanji, before record 27 of slot 0.\n");
-    let comma = [0x3001, 7, SIZE, SIZE, 0, 0];
-    print_edit(sheet::edit(sheet, Clinic(7), SlotNumber(0), 27, 0, &comma));
+    insert_comma(sheet, 7, SIZE);
+    say(b"Clinic 7 marks it as a kanji too, so that it could open a line.\n");
+    insert_comma(sheet, 19, SIZE);
     say(b"Clinic 9 writes a word that is wider than its measure into slot 2.\n");
     write(sheet, Clinic(9), SlotNumber(2), 0, 0, &LONG_WORD, NO_RUBY);
 }

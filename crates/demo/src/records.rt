@@ -13,30 +13,20 @@ pub(crate) struct Ruby {
 
 pub(crate) const NO_RUBY: Ruby = Ruby { group: 0, count: 0 };
 
-// The class of the characters that the texts here have, until a later request brings the published character lists. A
-// character that is not here gets 0, which is no class, so that the sheet refuses its record.
+// The class that a character gets by the published lists; % is set as a unit's sign, though Western text has it too. A
+// character of no list gets 0, which is no class, so that the sheet refuses its record.
 fn class_of(code: u32) -> u32 {
     match code {
-        0x300C => 1, // 「
-        0x300D => 2, // 」
-        0x3002 => 6, // 。
-        0x3001 => 7, // 、
-        0x30FC => 10, // ー
-        0x3063 | 0x30E3 => 11, // っ ャ
         0x25 => 13, // %
-        0x3041..=0x3096 => 15, // hiragana
-        0x30A1..=0x30FA => 16, // katakana
-        0x4E00..=0x9FFF => 19, // kanji
-        0x30..=0x39 | 0x61..=0x7A => 27, // digits and Latin letters
-        _ => 0,
+        _ => lists::class_of(code),
     }
 }
 
-// Half the size for brackets, full stops and commas, as their classes ask. Digits and Latin letters could have any
-// advance up to twice the size, and have half of it here.
+// Half the size for brackets, middle dots, full stops and commas, as their classes ask. A hyphen could have any advance
+// up to the size, a digit or Latin letter up to twice it: they have half of it here.
 fn advance_of(class: u32) -> u32 {
     match class {
-        1 | 2 | 6 | 7 | 27 => SIZE / 2,
+        1 | 2 | 3 | 5 | 6 | 7 | 27 => SIZE / 2,
         _ => SIZE,
     }
 }

@@ -45,7 +45,7 @@ pub(crate) fn print_text(text: &[u64]) {
     say(b"\n");
 }
 
-// Why a call is refused, by document 01's numbers.
+// Why a call is refused, by its number.
 fn print_reason(number: u32) {
     match number {
         1 => say(b"the sheet or a list has a wrong length"),
@@ -59,7 +59,8 @@ fn print_reason(number: u32) {
         9 => say(b"a record breaks its group's rules"),
         10 => say(b"a run without a break is wider than the measure"),
         11 => say(b"a clinic, measure or indent is out of limits"),
-        _ => say(b"document 01 has no such number"),
+        12 => say(b"a character is not in the published list of its class"),
+        _ => say(b"there is no such number"),
     }
 }
 
