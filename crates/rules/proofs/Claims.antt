@@ -21,6 +21,7 @@ use Rattle.rules.specs.Redone.{editLine, resumes, resumed, report}
 use Rattle.rules.specs.Refusals.{judged, splice}
 use Rattle.rules.specs.Meanings.{All, lastOf, Maximal, Boundary, OneUnit, RubyPlaced, Choice, Fits, Longest}
 use Rattle.rules.specs.Meanings.{FirstWide, GapAt, WithinLimits, FirstStageFull, Apart, FirstLacking, Listed}
+use Rattle.rules.specs.Meanings.{NeverOpens, startsWith}
 use Rattle.rules.specs.Percent.{digitAndPostfix}
 use Rattle.rules.specs.Stable.{Holds, FirstThat, Resumes, usedBy, StableEdit}
 use Rattle.rules.specs.Spacing.{named, gapSet, spacingTable, cellIn}
@@ -51,6 +52,8 @@ use Rattle.rules.proofs.GapLimits.{within-limits}
 use Rattle.rules.proofs.GapLimits.{first-stage-full}
 use Rattle.rules.proofs.GroupRows.{base-within, ruby-within}
 use Rattle.rules.proofs.RubyPlaces.{accepted-placed}
+use Rattle.rules.proofs.LineOpenings.{comma-barred, no-line-opens}
+use Rattle.rules.proofs.ListedCases.{listings, listings-hold}
 use Rattle.rules.proofs.spacing.spacing_table.Statement as spacing-table-contract
 use Rattle.rules.proofs.spacing.spacing_table.Met as spacing-table-met
 use Rattle.rules.proofs.groups.ruby_place.Statement as ruby-place-contract
@@ -73,6 +76,18 @@ answer-12-exactly rs i = first-not-listed rs i
 -- so the code point of each record that is accepted in some measure stands in the list of its class
 pub accepted-listed : (m x : ℕ) (rs : List Rec) → judged m x rs .number ≡ 0 → All Listed rs
 accepted-listed m x rs h = all-listed rs .0 (judged-passes m x rs 0 refl h .listed)
+
+-- and no line but the first opens with a character that is listed under barred classes alone, as the ideographic comma
+pub no-line-opens-with : (k m x : ℕ) (rs : List Rec) → NeverOpens k → judged m x rs .number ≡ 0 →
+    Apart (startsWith k) (breaking m x (runs (units rs)))
+no-line-opens-with k m x rs n h = no-line-opens k m x rs n h
+
+pub comma-never-opens : NeverOpens 0x3001
+comma-never-opens = comma-barred
+
+-- the cases of request 04 come out as they were worked by hand
+pub listed-by-hand : right listings ≡ true
+listed-by-hand = listings-hold
 
 -- Units ------------------------------------------------------------------------------------------------------------
 

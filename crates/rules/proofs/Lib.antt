@@ -35,6 +35,8 @@ pub mod Limits
 pub mod GroupLimits
 pub mod GroupedRecords
 pub mod RubyPlaces
+pub mod LineOpenings
+pub mod ListedCases
 pub mod Words
 pub mod Lengths
 pub mod SlotWords

@@ -6,10 +6,10 @@ use mathlib.Core.Bool.{Bool, true, false}
 use mathlib.Core.List.{List, [], _∷_, _++_}
 use mathlib.Core.Logic.{inl, inr}
 use lib.ListN.{take, drop}
-use Rattle.rules.specs.Basics.{Run, joined, tie, cut}
+use Rattle.rules.specs.Basics.{Run, whole, joined, tie, cut}
 use Rattle.rules.specs.Meanings.{All, all-none, all-more, lastIn, Apart, apart-none, apart-one}
 use Rattle.rules.specs.Meanings.{apart-more}
-use Rattle.rules.proofs.Facts.{tested, cons-path}
+use Rattle.rules.proofs.Facts.{tested, true-false, cons-path}
 use Rattle.rules.proofs.Cuts.{joined-append, cut-joined, cut-tied, cut-apart, cut-tail, maximal-only, cut-first}
 
 -- of lists one after the other
@@ -38,6 +38,25 @@ all-first (all-more h g) = h
 all-append : {A : Type 0} {P : A → Type 0} {ps qs : List A} → All P ps → All P qs → All P (ps ++ qs)
 all-append all-none h = h
 all-append (all-more g f) h = all-more g (all-append f h)
+
+pub all-trivial : {A : Type 0} (ps : List A) → All (λ a. Unit {0}) ps
+all-trivial [] = all-none
+all-trivial (p ∷ ps) = all-more tt (all-trivial ps)
+
+-- runs that a test keeps apart, a test that is stronger where elements have a property keeps apart
+pub apart-where : {A : Type 0} {P : A → Type 0} (s t : A → A → Bool) →
+    ((a b : A) → P b → t a b ≡ true → s a b ≡ true) → {ls : List (Run A)} → All P (joined ls) → Apart s ls → Apart t ls
+unfolding joined
+apart-where s t f h apart-none = apart-none
+apart-where s t f h apart-one = apart-one
+apart-where s t f h (apart-more {l = l} {k = k} {ls = ls} e hs) =
+    let g = all-back (whole l) (joined (k ∷ ls)) h in
+    let unmet : t (lastIn l) (k .first) ≡ false =
+    elim (tested (t (lastIn l) (k .first))) [
+      | inl p ↦ absurd (true-false (sym (f (lastIn l) (k .first) (all-first g) p) ∙ e))
+      | inr p ↦ p
+    ] in
+    apart-more unmet (apart-where s t f g hs)
 
 -- runs that grew at their end: the last of them has further elements, and further runs follow it
 pub data Grown {A : Type 0} : List (Run A) → List (Run A) → Type 0 where

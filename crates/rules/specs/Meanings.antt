@@ -10,17 +10,20 @@
 --   ruby placed          ruby place refuses no ruby character of a unit
 --   listed               a record's code point stands in the list of its class (document 02, request 04)
 --   first lacking        the first element of a list that lacks a property
+--   never opens          a character that is listed under barred classes alone (request 04)
 --
 -- Assumes nothing.
 use mathlib.Core.Path.{_≡_}
 use Prim.Native.Nat.{ℕ, _+_, _≤_, _<_}
 use mathlib.Core.Bool.{Bool, true, false}
 use mathlib.Core.List.{List, [], _∷_, _++_}
+use lib.Dec.{eqb}
 use lib.ListN.{length}
 use Rattle.lists.specs.Lists.{lists}
 use Rattle.lists.specs.Meanings.{Belongs}
 use Rattle.rules.specs.Basics.{Run, whole, then, joined}
 use Rattle.rules.specs.Records.{Rec}
+use Rattle.rules.specs.Listed.{barred}
 use Rattle.rules.specs.Gaps.{Gap, least}
 use Rattle.rules.specs.Groups.{TextUnit, counts, baseTotal, rubyOk, rubyOffset, rubyPlace}
 use Rattle.rules.specs.Breaks.{bound, width, gap}
@@ -43,6 +46,13 @@ pub record FirstLacking {A : Type 0} (P : A → Type 0) (ps : List A) (i : ℕ) 
 
 abbrev pub Listed : Rec → Type 0
 Listed r = Belongs (r .class) (r .code) lists
+
+abbrev pub NeverOpens : ℕ → Type 0
+NeverOpens k = (c : ℕ) → Belongs c k lists → barred c ≡ true
+
+-- of two neighbours, the second starts with the code point k
+abbrev pub startsWith : ℕ → TextUnit → TextUnit → Bool
+startsWith k u v = eqb (v .first .code) k
 
 abbrev pub lastOf : {A : Type 0} → A → List A → A
 lastOf a [] = a

@@ -1,0 +1,120 @@
+-- Request 04: of accepted records, no line but the first opens with a character that is listed under barred classes
+-- alone. Assumes nothing.
+use mathlib.Core.Path.{_≡_, refl, sym, _∙_}
+use Prim.Native.Nat.{ℕ}
+use mathlib.Core.Bool.{Bool, true, false, not, _&&_, _||_, and-eq-true-iff}
+use mathlib.Core.List.{List, [], _∷_}
+use mathlib.Core.Logic.{inl, inr}
+use lib.Dec.{leb, eqb}
+use borrow.Author.Tests.{eqb-true}
+use Rattle.lists.specs.Ranges.{hasCode}
+use Rattle.lists.specs.Lists.{ClassList, list, lists, inLists, inList}
+use Rattle.lists.proofs.Claims.{in-list-means}
+use Rattle.rules.specs.Basics.{isIn, within, joined}
+use Rattle.rules.specs.Records.{Rec, groupOk}
+use Rattle.rules.specs.Listed.{barred}
+use Rattle.rules.specs.Sides.{Side, sideBy, forbidden}
+use Rattle.rules.specs.Groups.{TextUnit, sameGroup, units, side}
+use Rattle.rules.specs.Breaks.{bound, runs, breaking}
+use Rattle.rules.specs.Refusals.{judged}
+use Rattle.rules.specs.Meanings.{All, all-none, all-more, Apart, Listed, NeverOpens, startsWith}
+use Rattle.rules.proofs.Facts.{tested, true-false}
+use Rattle.rules.proofs.Judged.{judged-passes}
+use Rattle.rules.proofs.Listed.{all-listed}
+use Rattle.rules.proofs.Parts.{all-back, apart-where}
+use Rattle.rules.proofs.Cuts.{cut-joined}
+use Rattle.rules.proofs.Limits.{and-right, asked}
+use Rattle.rules.proofs.GroupedRecords.{Fine, all-fine}
+use Rattle.rules.proofs.Breaking.{breaking-choice}
+
+-- each list that has k is a barred class's
+abbrev pub allBarred : ℕ → List ClassList → Bool
+allBarred k [] = true
+allBarred k (list c rs ∷ ls) = (not (hasCode k rs) || barred c) && allBarred k ls
+
+barred-in : (c k : ℕ) (ls : List ClassList) → allBarred k ls ≡ true → inLists c k ls ≡ true → barred c ≡ true
+barred-in c k [] e h = absurd (true-false (sym h))
+barred-in c k (list n rs ∷ ls) e h =
+    let both = and-eq-true-iff (not (hasCode k rs) || barred n) (allBarred k ls) .0 e in
+    cases (eqb c n) refl (hasCode k rs) (both .0) (barred-in c k ls (both .1)) h
+  where
+    cases : (s : Bool) → eqb c n ≡ s → (t : Bool) → (not t || barred n) ≡ true →
+        (inLists c k ls ≡ true → barred c ≡ true) → ((s && t) || inLists c k ls) ≡ true → barred c ≡ true
+    cases true p true b rest h = rw (eqb-true c n p) b
+    cases true p false b rest h = rest h
+    cases false p t b rest h = rest h
+
+pub never-opens-by : (k : ℕ) → allBarred k lists ≡ true → NeverOpens k
+unfolding inList
+never-opens-by k e c b = barred-in c k lists e (in-list-means c k .1 b)
+
+-- the comma that opened a line
+pub comma-barred : NeverOpens 0x3001
+unfolding lists
+comma-barred = never-opens-by 0x3001 refl
+
+-- a record that is listed under a barred class is in no group, so that a break before it is forbidden
+bars : (l r : Side) → barred (r .class) ≡ true → forbidden l r ≡ true
+unfolding forbidden
+bars l r e = rw e
+
+-- the classes of groups are not barred
+groups-open : (c : ℕ) → isIn c (15 ∷ 16 ∷ 19 ∷ []) ≡ true → barred c ≡ true → ⊥
+groups-open c e b =
+    elim (tested (eqb c 15)) [
+      | inl p ↦ true-false (sym (rw (eqb-true c 15 p) at b))
+      | inr p ↦
+          elim (tested (eqb c 16)) [
+            | inl q ↦ true-false (sym (rw (eqb-true c 16 q) at b))
+            | inr q ↦
+                elim (tested (eqb c 19)) [
+                  | inl o ↦ true-false (sym (rw (eqb-true c 19 o) at b))
+                  | inr o ↦ true-false (sym (rw (p, q, o) at e))
+                ]
+          ]
+    ]
+
+-- so a record of a barred class is in no group, and counts as its own class
+ungrouped : (r : Rec) → Fine r → barred (r .class) ≡ true → eqb (r .group) 0 ≡ true
+unfolding groupOk
+ungrouped r f b =
+    elim (tested (eqb (r .group) 0)) [
+      | inl e ↦ e
+      | inr e ↦
+          let g : leb (r .group) 65535 && within 1 64 (r .ruby) && isIn (r .class) (15 ∷ 16 ∷ 19 ∷ []) ≡ true =
+          rw e at (asked r f .group) in
+          absurd (groups-open (r .class) (and-right (leb (r .group) 65535 && within 1 64 (r .ruby)) _ g) b)
+    ]
+
+-- a record that keeps its rules and is listed
+pub record Kept (r : Rec) : Type 0 where
+  pub fine : Fine r
+  pub listed : Listed r
+
+opening-bound : (k : ℕ) → NeverOpens k → (u v : TextUnit) → Kept (v .first) → startsWith k u v ≡ true →
+    bound u v ≡ true
+unfolding sideBy
+opening-bound k n u v h e =
+    let r = v .first in
+    let b = n (r .class) (rw (eqb-true (r .code) k e) at (h .listed)) in
+    bars (side u) (side v) (rw (ungrouped r (h .fine) b) b)
+
+-- what is so of every record is so of every unit's first
+firsts : {P : Rec → Type 0} (us : List TextUnit) → All P (joined us) → All (λ u. P (u .first)) us
+unfolding joined
+firsts [] h = all-none
+firsts (u ∷ us) (all-more p h) = all-more p (firsts us (all-back (u .rest) (joined us) h))
+
+all-kept : {rs : List Rec} → All Fine rs → All Listed rs → All Kept rs
+all-kept all-none all-none = all-none
+all-kept (all-more f fs) (all-more l ls) = all-more (record { fine = f; listed = l }) (all-kept fs ls)
+
+pub no-line-opens : (k m x : ℕ) (rs : List Rec) → NeverOpens k → judged m x rs .number ≡ 0 →
+    Apart (startsWith k) (breaking m x (runs (units rs)))
+no-line-opens k m x rs n z =
+    let p = judged-passes m x rs 0 refl z in
+    let kept = all-kept (all-fine 0 rs (p .records)) (all-listed rs .0 (p .listed)) in
+    let up : joined (units rs) ≡ rs = unfold units in cut-joined sameGroup rs in
+    let c = breaking-choice m x (units rs) in
+    apart-where bound (startsWith k) (opening-bound k n)
+    (rw (c .joins-up) (firsts (units rs) (rw up kept))) (c .permitted)
