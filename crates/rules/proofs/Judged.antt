@@ -1,5 +1,5 @@
 -- What an answer to records tells of them: 0 that a breaking exists, with the line count; 10 that none does; either
--- that 8, 12 and 9 are not due.
+-- that 8, 12 and 9 are not due; 12 that a record is not listed, and that 8 is not due.
 -- Assumes nothing.
 use mathlib.Core.Path.{_≡_, refl, sym, ap, _∙_}
 use Prim.Native.Nat.{ℕ}
@@ -34,6 +34,13 @@ by-10 none none (some i) r n e = absurd (omega (arith, e))
 by-10 none (some i) q r n e = absurd (omega (arith, e))
 by-10 (some i) l q r n e = absurd (omega (arith, e))
 
+by-12 : (p l q r : Option ℕ) (n : ℕ) → by p l q r n .number ≡ 12 → (p ≡ none) × (l ≡ some (by p l q r n .place))
+by-12 none none none none n e = absurd (omega (arith, e))
+by-12 none none none (some i) n e = absurd (omega (arith, e))
+by-12 none none (some i) r n e = absurd (omega (arith, e))
+by-12 none (some i) q r n e = (refl, refl)
+by-12 (some i) l q r n e = absurd (omega (arith, e))
+
 -- where the answer is another than 8, 12 and 9, none of these is due
 by-passes : (p l q r : Option ℕ) (n k : ℕ) → isIn k (8 ∷ 12 ∷ 9 ∷ []) ≡ false → by p l q r n .number ≡ k →
     (p ≡ none) × (l ≡ none) × (q ≡ none)
@@ -64,6 +71,13 @@ module _ (m x : ℕ) (rs : List Rec) where
   -- an accepted paragraph is answered by its line count
   pub line-count : (p : ℕ) → judged m x rs ≡ says 0 p → p ≡ length (compose m x (units rs))
   line-count p e = ap (λ a. a .place) (sym e ∙ judged-0 (ap (λ a. a .number) e) .1)
+
+  pub judged-12 : judged m x rs .number ≡ 12 →
+      (badRecord 0 rs ≡ none) × (notListed 0 rs ≡ some (judged m x rs .place))
+  unfolding judged
+  judged-12 e =
+      by-12 (badRecord 0 rs) (notListed 0 rs) (groupFault rs) (noBreaking m x (units rs))
+      (length (compose m x (units rs))) e
 
   pub judged-10 : judged m x rs .number ≡ 10 → noBreaking m x (units rs) ≡ some (judged m x rs .place)
   unfolding judged

@@ -10,17 +10,18 @@ use mathlib.Core.Logic.{_↔_}
 use lib.ListN.{length, getD, take, drop}
 use denote.Ref.{now}
 use Rattle.rules.specs.Basics.{Run as RunOf}
+use Rattle.rules.specs.Records.{Rec}
 use Rattle.rules.specs.Groups.{TextUnit, units}
 use Rattle.rules.specs.Breaks.{runs, breaking}
 use Rattle.rules.specs.Adjustment.{Line, compose}
 use Rattle.rules.specs.Sheet.{lineWords, lineCountOf, measureOf, indentOf, recordsOf, slotCount, slotAt}
 use Rattle.rules.specs.Refusals.{Outcome, edited}
 use Rattle.rules.specs.Stable.{Used, usedBy, usedOf, ruledLines, AsRuled, StableEdit}
-use Rattle.rules.specs.Meanings.{All, Choice, Fits, Longest, FirstWide, RubyPlaced}
+use Rattle.rules.specs.Meanings.{All, Choice, Fits, Longest, FirstWide, RubyPlaced, FirstLacking, Listed}
 use Rattle.rules.proofs.Claims.{lines-chosen}
 use Rattle.sheet.specs.Book.{SlotCall, reads, Call, call-on, Reply, read-reply, numberOf, step}
 use Rattle.sheet.specs.Book.{BookSlot, bookStep}
-use Rattle.sheet.specs.Meanings.{Outside, AlikeFor, LeftAlike, NoEarlier, Spliced}
+use Rattle.sheet.specs.Meanings.{Outside, AlikeFor, LeftAlike, NoneBefore12, NoEarlier, Spliced}
 use Rattle.sheet.specs.declared.Clinic.{Clinic}
 use Rattle.sheet.specs.declared.SlotNumber.{SlotNumber}
 use Rattle.sheet.proofs.Stays.{book-refused}
@@ -30,9 +31,9 @@ use Rattle.sheet.proofs.Told.{told}
 use Rattle.sheet.proofs.RunLaws.{run-unchanged, run-length, run-alike, run-frame, read-lines, read-nothing}
 use Rattle.sheet.proofs.RunLaws.{read-kept}
 use Rattle.sheet.proofs.EditRuns.{run-splices, run-found-0, run-0, run-10, run-10-place, run-rubies, run-read}
-use Rattle.sheet.proofs.EditRuns.{run-stable, run-as-ruled, run-words-stable, run-none}
+use Rattle.sheet.proofs.EditRuns.{run-stable, run-as-ruled, run-words-stable, run-none, run-12, run-12-place, run-listed}
 use Rattle.sheet.proofs.Booked.{Begun, AsBooked}
-use Rattle.sheet.proofs.Histories.{as-booked, slots-as-ruled}
+use Rattle.sheet.proofs.Histories.{as-booked, slots-as-ruled, slots-listed}
 use Rattle.sheet.proofs.setting.set_up.Statement as set-up-contract
 use Rattle.sheet.proofs.setting.set_up.Met as set-up-met
 use Rattle.sheet.proofs.edit.Statement as edit-contract
@@ -139,7 +140,24 @@ module _ (u : EditRun) where
   pub edit-10-exactly : (answer u .number ≡ 10) ↔ (NoneDue × (Breakable → ⊥))
   edit-10-exactly = run-10 u
 
-  -- at the first record of the first run that is too wide
+  -- and 12, where no answer before it is due: exactly where a record of the new list is not listed, at the first such
+  abbrev NoneDueBefore12 : Type 0
+  NoneDueBefore12 = NoneBefore12 (now (u .args .0)) (caller u .0) (slot u .0) (place u) (deleted u) (inserted u)
+
+  abbrev newRecords : List Rec
+  newRecords = edited (slotBefore u) (place u) (deleted u) (inserted u)
+
+  pub edit-12-exactly : (answer u .number ≡ 12) ↔ (NoneDueBefore12 × (All Listed newRecords → ⊥))
+  edit-12-exactly = run-12 u
+
+  pub edit-12-place : answer u .number ≡ 12 → FirstLacking Listed newRecords (answer u .place)
+  edit-12-place h = run-12-place u h
+
+  -- so each record that an accepted edit leaves stands in the list of its class
+  pub edit-listed : answer u .number ≡ 0 → All Listed (recordsOf (slotAfter u))
+  edit-listed h = run-listed u h
+
+  -- 10 names the first record of the first run that is too wide
   pub edit-10-place : answer u .number ≡ 10 → FirstWide m x (runs us) (answer u .place)
   edit-10-place h = run-10-place u h
 
@@ -175,6 +193,11 @@ demand-3 ws rs b c = as-booked ws rs b c
 pub sequence-as-ruled : (ws : List ℕ) (rs : List Run) → Begun rs → Chained ws rs → (k : ℕ) → k < slotCount ws →
     AsRuled (slotAt (final ws rs) k)
 sequence-as-ruled ws rs b c k h = slots-as-ruled ws rs b c k h
+
+-- and each of these stands in the list of its class (request 04)
+pub sequence-listed : (ws : List ℕ) (rs : List Run) → Begun rs → Chained ws rs → (k : ℕ) → k < slotCount ws →
+    All Listed (recordsOf (slotAt (final ws rs) k))
+sequence-listed ws rs b c k h = slots-listed ws rs b c k h
 
 -- a call on a slot changes no word outside it, and a read none at all
 pub reach : (r : Run) (c : Clinic) (k : SlotNumber) (q : SlotCall) → call r ≡ call-on c k q →

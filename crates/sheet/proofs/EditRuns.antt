@@ -1,4 +1,4 @@
--- Laws of each run of an edit, from those of the definitions: what it does to its slot, when it answers 0 and 10, and
+-- Laws of each run of an edit, from those of the definitions: what it does to its slot, when it answers 0, 12 and 10, and
 -- what a read then hands back. Assumes nothing.
 use mathlib.Core.Path.{_≡_, sym, ap, subst, _∙_}
 use Prim.Native.Nat.{ℕ, _/_}
@@ -8,21 +8,22 @@ use mathlib.Core.Option.{none}
 use lib.ListN.{length}
 use denote.Ref.{now}
 use Rattle.rules.specs.Basics.{Run as RunOf}
-use Rattle.rules.specs.Records.{records}
+use Rattle.rules.specs.Records.{Rec, records}
 use Rattle.rules.specs.Groups.{TextUnit, units}
 use Rattle.rules.specs.Breaks.{runs, noBreaking}
 use Rattle.rules.specs.Adjustment.{Line, compose}
 use Rattle.rules.specs.Sheet.{lineWords, measureOf, indentOf, recordsOf, slotAt}
 use Rattle.rules.specs.Stable.{Used, usedBy, usedOf, ruledLines, AsRuled, StableEdit}
 use Rattle.rules.specs.Refusals.{EditAnswer, Outcome, splice, edited, edit, readNumber, readWords}
-use Rattle.rules.specs.Meanings.{All, Choice, Fits, FirstWide, RubyPlaced}
+use Rattle.rules.specs.Meanings.{All, Choice, Fits, FirstWide, RubyPlaced, FirstLacking, Listed}
+use Rattle.rules.proofs.Claims.{no-12-exactly}
 use Rattle.rules.proofs.RubyPlaces.{rubies-placed}
 use Rattle.sheet.specs.Book.{reads, call-on, read-reply}
-use Rattle.sheet.specs.Meanings.{NoEarlier, Spliced}
+use Rattle.sheet.specs.Meanings.{NoneBefore12, NoEarlier, Spliced}
 use Rattle.rules.proofs.SlotWords.{records-again}
 use Rattle.sheet.proofs.Changes.{accepted-edit, accepted-stable, accepted-used, accepted-as-ruled}
 use Rattle.sheet.proofs.Changes.{refused-none, read-after}
-use Rattle.sheet.proofs.Exactly.{found-0, exactly-0, exactly-10, place-10}
+use Rattle.sheet.proofs.Exactly.{found-0, exactly-0, exactly-12, place-12, exactly-10, place-10}
 use Rattle.sheet.proofs.Runs.{EditRun, caller, slot, place, deleted, inserted, answer, slotBefore, slotAfter}
 use Rattle.sheet.proofs.Runs.{Run, call, before, reply}
 use Rattle.sheet.proofs.RunLaws.{read-replied}
@@ -83,6 +84,25 @@ module _ (u : EditRun) where
       by-contract (λ o. o .0 .number ≡ 10 → FirstWide m x (runs us) (o .0 .place))
       (place-10 ws (caller u .0) (slot u .0) (place u) (deleted u) (inserted u))
 
+  -- answer 12
+  abbrev pub records-new : List Rec
+  records-new = edited (slotBefore u) (place u) (deleted u) (inserted u)
+
+  abbrev pub Reached12 : Type 0
+  Reached12 = NoneBefore12 ws (caller u .0) (slot u .0) (place u) (deleted u) (inserted u)
+
+  pub run-12 : (answer u .number ≡ 12) ↔ (Reached12 × (All Listed records-new → ⊥))
+  unfolding edit
+  run-12 =
+      by-contract (λ o. (o .0 .number ≡ 12) ↔ (Reached12 × (All Listed records-new → ⊥)))
+      (exactly-12 ws (caller u .0) (slot u .0) (place u) (deleted u) (inserted u))
+
+  pub run-12-place : answer u .number ≡ 12 → FirstLacking Listed records-new (answer u .place)
+  unfolding edit
+  run-12-place =
+      by-contract (λ o. o .0 .number ≡ 12 → FirstLacking Listed records-new (o .0 .place))
+      (place-12 ws (caller u .0) (slot u .0) (place u) (deleted u) (inserted u))
+
   -- the slot's lines by the rules, before and after
   abbrev pub old : List Line
   old = ruledLines (slotBefore u)
@@ -125,16 +145,22 @@ module _ (u : EditRun) where
       by-contract (λ o. (o .0 .number ≡ 0 → ⊥) → o .0 .redone ≡ 0)
       (refused-none ws (caller u .0) (slot u .0) (place u) (deleted u) (inserted u))
 
-  -- the groups of the slot that it leaves are within ruby place's limits
-  pub run-rubies : answer u .number ≡ 0 → All RubyPlaced (units (recordsOf (slotAfter u)))
-  run-rubies z =
+  -- the records of the slot that it leaves
+  records-left : answer u .number ≡ 0 → records-new ≡ recordsOf (slotAfter u)
+  records-left z =
       let s = run-splices z in
-      let due = run-0 .0 z .0 in
       let same : records (inserted u) 0 (length (inserted u) / 6) ≡ s .new
       = ap (λ w. records w 0 (length w / 6)) (sym (s .whole)) ∙ records-again (s .new) in
-      let e : edited (slotBefore u) (place u) (deleted u) (inserted u) ≡ recordsOf (slotAfter u)
-      = ap (splice (recordsOf (slotBefore u)) (place u) (deleted u)) same ∙ sym (s .changed) in
-      rw (← e) (rubies-placed _ (due .records) (due .groups))
+      ap (splice (recordsOf (slotBefore u)) (place u) (deleted u)) same ∙ sym (s .changed)
+
+  -- its groups are within ruby place's limits
+  pub run-rubies : answer u .number ≡ 0 → All RubyPlaced (units (recordsOf (slotAfter u)))
+  run-rubies z =
+      let due = run-0 .0 z .0 in rw (← records-left z) (rubies-placed _ (due .records) (due .groups))
+
+  -- and each stands in the list of its class
+  pub run-listed : answer u .number ≡ 0 → All Listed (recordsOf (slotAfter u))
+  run-listed z = rw (← records-left z) (no-12-exactly _ .0 (run-0 .0 z .0 .listed))
 
   -- a read by the same caller on the sheet that it left
   pub run-read : answer u .number ≡ 0 → (r : Run) → call r ≡ call-on (caller u) (slot u) reads →

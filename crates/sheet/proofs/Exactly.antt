@@ -1,4 +1,5 @@
--- When an edit answers 0 and 10: exactly where no earlier answer is due, by whether a breaking exists.
+-- When an edit answers 12, 10 and 0: exactly where no earlier answer is due, 12 by whether each record is listed, and
+-- 10 or 0 by whether a breaking exists.
 -- Assumes nothing.
 use mathlib.Core.Path.{_≡_, refl, sym, ap, _∙_}
 use Prim.Native.Nat.{ℕ}
@@ -10,16 +11,18 @@ use mathlib.Core.Option.{Option, none, some}
 use lib.ListN.{length}
 use Rattle.rules.specs.Basics.{isIn, Run}
 use Rattle.rules.specs.Records.{Rec}
+use Rattle.rules.specs.Listed.{notListed}
 use Rattle.rules.specs.Groups.{TextUnit, units}
 use Rattle.rules.specs.Breaks.{runs, noBreaking}
 use Rattle.rules.specs.Adjustment.{compose}
 use Rattle.rules.specs.Sheet.{measureOf, indentOf, slotAt}
 use Rattle.rules.specs.Refusals.{Answer, says, EditAnswer, asEdit, Outcome, orElse, judged, edited, slotRows}
 use Rattle.rules.specs.Refusals.{editSlot, callRows, onSlot}
-use Rattle.rules.specs.Meanings.{Choice, Fits, FirstWide}
-use Rattle.rules.proofs.Claims.{no-10-exactly, answer-10}
-use Rattle.rules.proofs.Judged.{judged-passes, judged-0, judged-10}
-use Rattle.sheet.specs.Meanings.{NoEarlier}
+use Rattle.rules.specs.Meanings.{All, Choice, Fits, FirstWide, FirstLacking, Listed}
+use Rattle.rules.proofs.Claims.{no-12-exactly, answer-12-exactly, no-10-exactly, answer-10}
+use Rattle.rules.proofs.Facts.{some-none}
+use Rattle.rules.proofs.Judged.{judged-passes, judged-0, judged-12, judged-10}
+use Rattle.sheet.specs.Meanings.{NoneBefore12, NoEarlier}
 use Rattle.sheet.proofs.Tables.{same-number, lacking, passed, under-table}
 use Rattle.sheet.proofs.OnSlot.{on-entering}
 use Rattle.sheet.proofs.SlotChanges.{slot-judged}
@@ -64,6 +67,55 @@ module _ (ws : List ℕ) (caller k place deleted : ℕ) (inserted : List ℕ) wh
       = ap (λ (b : EditAnswer). b .place) (f .answer) ∙ ap (λ (b : Answer). b .place) j in
       let e = judged-10 m x _ (same-number (sym j) ∙ f .number) in
       answer-10 m x us (out .0 .place) (e ∙ ap some (sym a)) .1
+
+  -- 12 names the first record that is not listed
+  pub place-12 : out .0 .number ≡ 12 → FirstLacking Listed new (out .0 .place)
+  unfolding callRows slotRows editSlot
+  place-12 z =
+      let f = from-slot ws caller k place deleted inserted 12 refl z in
+      let j = slot-judged before place deleted inserted 12 refl (f .number) .answer in
+      let a : out .0 .place ≡ judged m x new .place
+      = ap (λ (b : EditAnswer). b .place) (f .answer) ∙ ap (λ (b : Answer). b .place) j in
+      let e = judged-12 m x new (same-number (sym j) ∙ f .number) .1 in
+      answer-12-exactly new (out .0 .place) .0 (e ∙ ap some (sym a))
+
+  abbrev Reached12 : Type 0
+  Reached12 = NoneBefore12 ws caller k place deleted inserted
+
+  reached : out .0 .number ≡ 12 → Reached12
+  unfolding callRows slotRows editSlot
+  reached z =
+      let rows = slotRows before place deleted inserted in
+      let f = from-slot ws caller k place deleted inserted 12 refl z in
+      let p = passed 12 rows (judged m x new) refl (f .number) in
+      record {
+        call = f .entry;
+        slot = same-number (under-table rows (says 0 0) (p .0));
+        records = judged-12 m x new (p .1) .0;
+      }
+
+  -- where no earlier answer is due, the answer is that of the records from there on
+  due-12 : Reached12 → (i : ℕ) → notListed 0 new ≡ some i → out .0 .number ≡ 12
+  unfolding slotRows editSlot judged
+  due-12 h i e =
+      let rows = slotRows before place deleted inserted in
+      ap (λ (o : Outcome EditAnswer). o .0 .number) (on-entering asEdit ws caller k here (h .call))
+      ∙ same-number (under-table rows _ (passed 0 rows (says 0 0) refl (h .slot) .0)) ∙ rw (h .records, e)
+
+  by-listed : Reached12 → (All Listed new → ⊥) → (o : Option ℕ) → notListed 0 new ≡ o → out .0 .number ≡ 12
+  by-listed h n none e = absurd (n (no-12-exactly new .0 e))
+  by-listed h n (some i) e = due-12 h i e
+
+  -- 12 is given exactly where no earlier answer is due and some record is not listed
+  pub exactly-12 : (out .0 .number ≡ 12) ↔ (Reached12 × (All Listed new → ⊥))
+  exactly-12 = (
+    λ z. (
+      reached z,
+      λ a.
+          some-none (sym (answer-12-exactly new (out .0 .place) .1 (place-12 z)) ∙ no-12-exactly new .1 a),
+    ),
+    λ h. by-listed (h .0) (h .1) (notListed 0 new) refl,
+  )
 
   abbrev pub Breakable : Type 0
   Breakable = (ls : List (Run TextUnit)) × Choice us ls × Fits m x ls

@@ -5,10 +5,12 @@ use native.Mathlib.Omega.{arith}
 use mathlib.Core.List.{List, [], _∷_, _++_, map, map-append}
 use lib.ListN.{length}
 use denote.Ref.{now}
-use Rattle.rules.specs.Sheet.{slotCount, slotAt}
+use Rattle.rules.specs.Sheet.{recordsOf, slotCount, slotAt}
 use Rattle.rules.specs.Refusals.{Answer, says, Outcome, setUpAnswer, setUp}
 use Rattle.rules.specs.Stable.{AsRuled}
-use Rattle.rules.proofs.SlotWords.{slot-as-ruled}
+use Rattle.rules.specs.Meanings.{All, Listed}
+use Rattle.rules.proofs.Claims.{accepted-listed}
+use Rattle.rules.proofs.SlotWords.{slot-records, slot-as-ruled}
 use Rattle.sheet.specs.Book.{Reply, set-up-reply, numberOf, step}
 use Rattle.sheet.specs.Book.{BookSlot, bookAt, encodeSlot, inWords, runBook}
 use Rattle.sheet.proofs.Tables.{same-number}
@@ -124,6 +126,13 @@ module _ (ws : List ℕ) (rs : List Run) (b : Begun rs) (h : Chained ws rs) wher
       let e = slot-encoded k within in
       let s = bookAt book k in
       subst AsRuled (sym (e .1)) (slot-as-ruled (s .setting) (s .records) (e .0 .few))
+
+  -- each of which stands in the list of its class
+  pub slots-listed : (k : ℕ) → k < slotCount ws → All Listed (recordsOf (slotAt (final ws rs) k))
+  slots-listed k within =
+      let e = slot-encoded k within in
+      let s = bookAt book k in
+      rw (e .1, slot-records (s .setting) (s .records)) (accepted-listed _ _ (s .records) (e .0 .right))
 
   starts-anew : (qs : List Run) (v : SetUpRun) (ts : List Run) → rs ≡ qs ++ set-up-run v ∷ ts →
       v .result .number ≡ 0 →

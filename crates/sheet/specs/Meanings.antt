@@ -4,6 +4,7 @@
 --   beyond       answer 1 or 2 is due: the sheet's length tells
 --   alike        two sheets that a caller of a slot cannot tell apart
 --   left alike   what a call makes of two such sheets is the same where it may look and write
+--   none before 12    an edit to which no answer before 12 applies
 --   no earlier   an edit to which no answer before 10 applies
 --   spliced      a slot after an accepted edit
 --
@@ -53,6 +54,13 @@ LeftAlike (call-set-up cs ms xs) a ws left right = numberOf a ≡ 0 → left ≡
 LeftAlike (call-on c k q) a ws left right =
     beyond (length ws) (k .0) ≡ false → (c .0 ≡ 0 → ⊥) → c .0 ≡ clinicOf (slotAt ws (k .0)) →
     slotAt left (k .0) ≡ slotAt right (k .0)
+
+-- no answer before 12 is due on an edit: the rows 1 to 3 and 4 to 7 do not apply, and each record that would result
+-- keeps its own rules
+pub record NoneBefore12 (ws : List ℕ) (caller k place deleted : ℕ) (inserted : List ℕ) : Type 0 where
+  pub call : called ws caller k .number ≡ 0
+  pub slot : firstOf (slotRows (slotAt ws k) place deleted inserted) (says 0 0) .number ≡ 0
+  pub records : badRecord 0 (edited (slotAt ws k) place deleted inserted) ≡ none
 
 -- no answer before 10 is due on an edit: the rows 1 to 3 and 4 to 7 do not apply, and each record that would result
 -- keeps its own rules, stands in the list of its class and keeps its group's rules
