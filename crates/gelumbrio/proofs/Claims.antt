@@ -22,6 +22,10 @@ use Rattle.gelumbrio.proofs.gelumbrio_read_number.Statement as read-num
 use Rattle.gelumbrio.proofs.gelumbrio_read_number.Met as read-number-met
 use Rattle.gelumbrio.proofs.gelumbrio_ruby_place.Statement as ruby-place-contract
 use Rattle.gelumbrio.proofs.gelumbrio_ruby_place.Met as ruby-place-met
+use Rattle.gelumbrio.proofs.gelumbrio_in_list.Statement as in-list-contract
+use Rattle.gelumbrio.proofs.gelumbrio_in_list.Met as in-list-met
+use Rattle.gelumbrio.proofs.gelumbrio_class_of.Statement as class-of-contract
+use Rattle.gelumbrio.proofs.gelumbrio_class_of.Met as class-of-met
 
 -- Demand 1 ----------------------------------------------------------------------------------------------------------
 
@@ -40,6 +44,12 @@ read-number-meets = read-number-met.met
 
 pub ruby-place-meets : {M : Type 1} → ruby-place-contract.statement M
 ruby-place-meets = ruby-place-met.met
+
+pub in-list-meets : {M : Type 1} → in-list-contract.statement M
+in-list-meets = in-list-met.met
+
+pub class-of-meets : {M : Type 1} → class-of-contract.statement M
+class-of-meets = class-of-met.met
 
 -- and these are the statements of the calls that they hand on: a run of an export is a run of the call, so that all
 -- that crate `sheet` claims of runs holds of it
