@@ -1,5 +1,5 @@
 #!/usr/bin/env python3
-"""Writes what is made of source document 003 (JLReq, Annex A): of crate `lists` the lists in specs/, the program's tables,
+"""Writes what crate `lists` has of source document 003 (JLReq, Annex A): the lists in specs/, the program's tables,
 and the proofs of the tables' arms.
 
 Usage, from the repository's root: python3 tools/lists/make.py PAPERS, the folder of the source document."""
@@ -11,12 +11,15 @@ NAMES = {1: "opening-brackets", 2: "closing-brackets", 3: "hyphens", 4: "dividin
          11: "small-kana", 12: "prefixed-abbreviations", 13: "postfixed-abbreviations", 14: "full-width-space",
          15: "hiragana", 16: "katakana", 19: "ideographic", 27: "western"}
 CRATE = "crates/lists/"
-MADE = "-- Made by tools/lists/make.py; edit that.\n"
+MADE = "Made by tools/lists/make.py; edit that."
 
 
 def shown(codes):
+    """A range of the lists. Where its names are too long for a line, the last is left out."""
     a, b, first, last = codes
-    text = f"    one 0x{a:04X} ∷  -- {first}" if a == b else f"    range 0x{a:04X} 0x{b:04X} ∷  -- {first} .. {last}"
+    if a == b:
+        return f"    one 0x{a:04X} ∷  -- {first}\n"
+    text = f"    range 0x{a:04X} 0x{b:04X} ∷  -- {first} .. {last}"
     return (text if len(text) < 119 else text[:text.index(" .. ")] + " ..") + "\n"
 
 
@@ -32,17 +35,26 @@ def spec_list(cls, lists):
     return text + "".join(map(shown, source.ranges(list(once.items())))) + "    []\n"
 
 
-def spec_file(name, head, classes, lists, more=""):
+def spec_file(name, what, classes, lists, more=""):
     with open(CRATE + f"specs/{name}.antt", "w") as f:
-        f.write(head + "-- A range is where the source goes on with the next code point, in the source's own order; "
-                "its names are the source's.\n" + MADE + "-- Assumes nothing.\n"
-                "use mathlib.Core.List.{List, [], _∷_}\nuse Rattle.lists.specs.Ranges.{Range, range, one}\n\n")
+        f.write(f"""\
+-- {what}
+-- A range is where the source goes on with the next code point, in the source's own order; its names are the source's.
+-- {MADE}
+-- Assumes nothing.
+use mathlib.Core.List.{{List, [], _∷_}}
+use Rattle.lists.specs.Ranges.{{Range, range, one}}
+
+""")
         f.write("\n".join(spec_list(c, lists) for c in classes) + more)
 
 
 def unified():
-    text = ("\n-- 統合漢字, the property Unified_Ideograph of Unicode 15.1 (PropList.txt)\nunfoldable pub unified-ideographs : List Range\n"
-            "unified-ideographs =\n")
+    text = """
+-- 統合漢字, the property Unified_Ideograph of Unicode 15.1 (PropList.txt)
+unfoldable pub unified-ideographs : List Range
+unified-ideographs =
+"""
     for a, b in source.UNIFIED:
         text += f"    one 0x{a:04X} ∷" if a == b else f"    range 0x{a:04X} 0x{b:04X} ∷"
         text += f"  -- {source.BLOCKS[a]}\n" if a in source.BLOCKS else "\n"
@@ -50,54 +62,73 @@ def unified():
 
 
 def table(name, xs):
-    return (f"unfoldable pub {name} : List ℕ\n{name} =\n" + "".join(f"    0x{x:X} ∷\n" for x in xs) + "    []\n")
+    return f"unfoldable pub {name} : List ℕ\n{name} =\n" + "".join(f"    0x{x:X} ∷\n" for x in xs) + "    []\n"
 
 
 def match(name, doc, xs):
     arms = "".join(f"        {i} => 0x{x:X},\n" for i, x in enumerate(xs))
-    return (f"// {doc}\npub(crate) fn {name}(n: u32) -> u64\n    ensures {{ λ r. ⌜ r ≡ getD {name}s n 0 ⌝ }}\n{{\n"
-            f"    match n {{\n{arms}        _ => 0,\n    }}\n}}\n")
+    return f"""// {doc}
+pub(crate) fn {name}(n: u32) -> u64
+    ensures {{ λ r. ⌜ r ≡ getD {name}s n 0 ⌝ }}
+{{
+    match n {{
+{arms}        _ => 0,
+    }}
+}}
+"""
 
 
 def proof(name, n):
-    fn = f"tables/{name}"
-    with open(CRATE + f"proofs/{fn}/Proof.antt", "w") as f:
-        f.write(f"""-- `lists::tables::{name}` meets its contract: an arm for each entry of the table, in order, and 0 past its end.
-{MADE}-- Assumes nothing.
+    arms = "".join(f"    (λ c. arm {name}s (c .match .keys{i + 1}))\n" for i in range(n))
+    with open(CRATE + f"proofs/tables/{name}/Proof.antt", "w") as f:
+        f.write(f"""\
+-- `lists::tables::{name}` meets its contract: an arm for each number of the table, and 0 past its end.
+-- {MADE}
+-- Assumes nothing.
 use Rattle.lists.specs.Table.{{{name}s}}
 use Rattle.lists.proofs.Arms.{{arm, past-arms}}
 use Rattle.lists.proofs.tables.{name}.Statement.{{statement}}
 use Rattle.lists.proofs.tables.{name}.Tie as tie
 
+pub {name}-spec : {{M : Type 1}} → statement M
+unfolding {name}s
+{name}-spec =
+    tie.close
+    (tie.spec
+{arms}    (λ c. past-arms {name}s (c .before .args .n) (c .match .rest)))
 """)
-        f.write(f"pub {name}-spec : {{M : Type 1}} → statement M\nunfolding {name}s\n{name}-spec =\n    tie.close\n    (tie.spec\n")
-        for i in range(n):
-            f.write(f"    (λ c. arm {name}s (c .match .keys{i + 1}))\n")
-        f.write(f"    (λ c. past-arms {name}s (c .before .args .n) (c .match .rest)))\n")
 
 
 def main():
     lists = source.read(sys.argv[1])
-    spec_file("ListsTo16", "-- JLReq Annex A, classes 1 to 16. Entries of two code points are left out (request 04).\n",
-              range(1, 17), lists)
-    spec_file("List19", "-- JLReq Annex A, class 19, whose list there is of examples other than ideographs; and the ideographs.\n", [19], lists,
-              unified())
-    spec_file("List27", "-- JLReq Annex A, class 27. Entries of two code points are left out (request 04).\n", [27], lists)
+    left_out = "Entries of two code points are left out (request 04)."
+    spec_file("ListsTo16", f"JLReq Annex A, classes 1 to 16. {left_out}", range(1, 17), lists)
+    examples = "JLReq Annex A, class 19, whose list there is of examples other than ideographs; and the ideographs."
+    spec_file("List19", examples, [19], lists, unified())
+    spec_file("List27", f"JLReq Annex A, class 27. {left_out}", [27], lists)
     blocks, eights = tables.two_level(lists)
     with open(CRATE + "specs/Table.antt", "w") as f:
-        f.write("-- The program's tables, which its private functions' contracts cite. Nothing here needs to be believed: that they\n"
-                "-- agree with the lists is proved (proofs/Agreement.antt).\n"
-                "--   eights    eight entries to a number, the first lowest. Eights 0 to 31 are those of 0000 to 00FF, and 32 to 63\n"
-                "--             those of 3000 to 30FF, in order\n"
-                "--   blocks    for each 64 code points below 3400 the numbers of their eights, a byte each, the first lowest\n"
-                f"{MADE}-- Assumes nothing.\nuse Prim.Native.Nat.{{ℕ}}\nuse mathlib.Core.List.{{List, [], _∷_}}\n\n"
-                + table("blocks", blocks) + "\n" + table("eights", eights))
+        f.write(f"""\
+-- The program's tables, which its private functions' contracts cite. Nothing here needs to be believed: that
+-- they agree with the lists is proved (proofs/Agreement.antt).
+--   eights    eight entries to a number, the first lowest. Eights 0 to 31 are those of 0000 to 00FF, and 32 to 63
+--             those of 3000 to 30FF, in order
+--   blocks    for each 64 code points below 3400 the numbers of their eights, a byte each, the first lowest
+-- {MADE}
+-- Assumes nothing.
+use Prim.Native.Nat.{{ℕ}}
+use mathlib.Core.List.{{List, [], _∷_}}
+
+""" + table("blocks", blocks) + "\n" + table("eights", eights))
     with open(CRATE + "src/tables.rt", "w") as f:
-        f.write("// The tables: a match on a number with constant arms is one load from read-only memory.\n"
-                "// Made by tools/lists/make.py; edit that.\n"
-                "ghost use mathlib.Core.Path.{_≡_};\nghost use lib.ListN.{getD};\n"
-                "ghost use Rattle.lists.specs.Table.{blocks, eights};\n\n"
-                + match("block", "For 64 code points, the numbers of their eights, the first lowest.", blocks) + "\n"
+        f.write(f"""\
+// The tables: a match on a number with constant arms is one load from read-only memory.
+// {MADE}
+ghost use mathlib.Core.Path.{{_≡_}};
+ghost use lib.ListN.{{getD}};
+ghost use Rattle.lists.specs.Table.{{blocks, eights}};
+
+""" + match("block", "For 64 code points, the numbers of their eights, the first lowest.", blocks) + "\n"
                 + match("eight", "The entries of eight code points, the first lowest.", eights))
     proof("block", len(blocks))
     proof("eight", len(eights))

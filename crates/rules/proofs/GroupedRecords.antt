@@ -1,19 +1,19 @@
 -- Bounds: what answer 8 leaves of a record of a group. Assumes nothing.
 use mathlib.Core.Path.{_≡_, sym}
-use Prim.Native.Nat.{ℕ, suc, _≤_, _<_}
+use Prim.Native.Nat.{ℕ, _≤_, _<_}
 use native.Mathlib.Omega.{arith}
 use mathlib.Core.Bool.{true, false, _&&_, and-eq-true-iff}
 use mathlib.Core.List.{List, [], _∷_}
 use mathlib.Core.Logic.{inl, inr}
-use mathlib.Core.Option.{none, some}
+use mathlib.Core.Option.{none}
 use lib.Dec.{leb, eqb}
 use borrow.Author.Tests.{eqb-true, ne-eqb}
 use Rattle.rules.specs.Basics.{within, isIn}
 use Rattle.rules.specs.Records.{Rec, sizeOk, advanceKind, advanceOk, groupOk, recOk, badRecord}
-use Rattle.rules.specs.Meanings.{All, all-none, all-more}
+use Rattle.rules.specs.Meanings.{All}
 use Rattle.rules.proofs.FirstFailing.{none-fails}
 use Rattle.rules.proofs.Bounds.{size-bounds}
-use Rattle.rules.proofs.Facts.{tested, true-false, some-none}
+use Rattle.rules.proofs.Facts.{tested, true-false}
 use Rattle.rules.proofs.Limits.{asked}
 
 abbrev pub Fine : Rec → Type 0

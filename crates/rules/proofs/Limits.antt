@@ -1,11 +1,11 @@
 -- Bounds: what answer 8 leaves of records. Assumes nothing.
 use mathlib.Core.Path.{_≡_, refl, sym}
-use Prim.Native.Nat.{ℕ, zero, suc, _*_, _/_, _≤_}
+use Prim.Native.Nat.{ℕ, _*_, _/_, _≤_}
 use native.Mathlib.Omega.{arith}
 use mathlib.Core.Bool.{Bool, true, false, _&&_}
 use mathlib.Core.List.{List, [], _∷_}
 use mathlib.Core.Logic.{inl, inr}
-use mathlib.Core.Option.{none, some}
+use mathlib.Core.Option.{none}
 use lib.Dec.{leb, eqb}
 use lib.ListN.{drop}
 use borrow.Author.Tests.{eqb-true}
@@ -16,7 +16,7 @@ use Rattle.rules.specs.Sides.{sideBy}
 use Rattle.rules.specs.Values.{SideOk}
 use Rattle.rules.proofs.FirstFailing.{none-fails, passes-at}
 use Rattle.rules.proofs.Bounds.{within-high, size-bounds}
-use Rattle.rules.proofs.Facts.{tested, true-false, nil-cons, some-none}
+use Rattle.rules.proofs.Facts.{tested, true-false}
 
 pub record RecordBounds (r : Rec) : Type 0 where
   pub size : r .size ≤ 4000

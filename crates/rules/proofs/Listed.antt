@@ -10,7 +10,7 @@ use Rattle.lists.proofs.Claims.{in-list-means}
 use Rattle.rules.specs.Records.{Rec, classes}
 use Rattle.rules.specs.Listed.{isListed, notListed}
 use Rattle.rules.specs.Meanings.{All, all-none, all-more, FirstLacking, Listed}
-use Rattle.rules.proofs.FirstFailing.{Passes, none-fails, all-pass, fails-first, lacking-fails}
+use Rattle.rules.proofs.FirstFailing.{none-fails, all-pass, fails-first, lacking-fails}
 
 -- the class whose list it is
 abbrev pub classIn : ClassList → ℕ

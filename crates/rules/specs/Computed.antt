@@ -22,12 +22,12 @@ use Rattle.rules.specs.Spacing.{entries, agrees, cellOf, spacingTable}
 use Rattle.rules.specs.Packed.{packed, unpacked, entryWords}
 
 unfoldable pub computed : Unit {0}
-unfolding lists inList joined cut firstFailing zeros isListed notListed codeOk classes classOk rowOf sizeOk advanceKind advanceOk groupOk recOk badRecord
-    records recordWords badGroup groupFault units counts sideBy advances groupAdvance advance shift baseOffset
-    offsets baseOffsets rubyOffset rubyPlace ruleOf measured spaceBy spaceOf forbidden flexibility gapBy weight
-    gapOf smallest runs wideRun noBreaking filled breaking totals unitAdvances amounts amountsOf placed ending
-    kindOf lineOf linesOf compose placesOf placeWords lineWords slotWords judged sound splice slotRows editSlot
-    starts holding editLine firstLine resumed report linesRedone
-    callRows called onSlot edit readRows readNumber readStart readLength readWords badSlot freshSlots setUpRows
-    setUpAnswer setUp entries agrees cellOf spacingTable packed unpacked entryWords
+unfolding lists inList joined cut firstFailing zeros codeOk classes classOk rowOf sizeOk advanceKind advanceOk
+    groupOk recOk badRecord isListed notListed records recordWords badGroup groupFault units counts sideBy
+    advances groupAdvance advance shift baseOffset offsets baseOffsets rubyOffset rubyPlace ruleOf measured
+    spaceBy spaceOf forbidden flexibility gapBy weight gapOf smallest runs wideRun noBreaking filled breaking
+    totals unitAdvances amounts amountsOf placed ending kindOf lineOf linesOf compose placesOf placeWords
+    lineWords slotWords judged sound splice slotRows editSlot starts holding editLine firstLine resumed report
+    linesRedone callRows called onSlot edit readRows readNumber readStart readLength readWords badSlot
+    freshSlots setUpRows setUpAnswer setUp entries agrees cellOf spacingTable packed unpacked entryWords
 computed = tt

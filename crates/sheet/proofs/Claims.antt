@@ -31,7 +31,8 @@ use Rattle.sheet.proofs.Told.{told}
 use Rattle.sheet.proofs.RunLaws.{run-unchanged, run-length, run-alike, run-frame, read-lines, read-nothing}
 use Rattle.sheet.proofs.RunLaws.{read-kept}
 use Rattle.sheet.proofs.EditRuns.{run-splices, run-found-0, run-0, run-10, run-10-place, run-rubies, run-read}
-use Rattle.sheet.proofs.EditRuns.{run-stable, run-as-ruled, run-words-stable, run-none, run-12, run-12-place, run-listed}
+use Rattle.sheet.proofs.EditRuns.{run-stable, run-as-ruled, run-words-stable, run-none}
+use Rattle.sheet.proofs.EditRuns.{run-12, run-12-place, run-listed}
 use Rattle.sheet.proofs.Booked.{Begun, AsBooked}
 use Rattle.sheet.proofs.Histories.{as-booked, slots-as-ruled, slots-listed}
 use Rattle.sheet.proofs.setting.set_up.Statement as set-up-contract

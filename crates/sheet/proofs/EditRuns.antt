@@ -1,5 +1,5 @@
--- Laws of each run of an edit, from those of the definitions: what it does to its slot, when it answers 0, 12 and 10, and
--- what a read then hands back. Assumes nothing.
+-- Laws of each run of an edit, from those of the definitions: what it does to its slot, when it answers 0, 12 and 10,
+-- and what a read then hands back. Assumes nothing.
 use mathlib.Core.Path.{_≡_, sym, ap, subst, _∙_}
 use Prim.Native.Nat.{ℕ, _/_}
 use mathlib.Core.List.{List}

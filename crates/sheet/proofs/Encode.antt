@@ -25,7 +25,7 @@ use Rattle.rules.proofs.SlotWords.{length-slot, slot-setting, slot-fresh}
 
 -- Well-formed books -------------------------------------------------------------------------------------------------
 
--- a slot within its limits, whose records are at most 256 and fall under none of 8, 9 and 10; an unassigned one has
+-- a slot within its limits, whose records are at most 256 and fall under none of 8, 12, 9 and 10; an unassigned one has
 -- none
 pub record Sound (s : BookSlot) : Type 0 where
   pub limits : slotLimitsOk (s .setting) ≡ true

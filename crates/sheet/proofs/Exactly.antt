@@ -9,7 +9,7 @@ use mathlib.Core.List.{List, [], _∷_}
 use mathlib.Core.Logic.{_↔_}
 use mathlib.Core.Option.{Option, none, some}
 use lib.ListN.{length}
-use Rattle.rules.specs.Basics.{isIn, Run}
+use Rattle.rules.specs.Basics.{isIn, firstOf, Run}
 use Rattle.rules.specs.Records.{Rec}
 use Rattle.rules.specs.Listed.{notListed}
 use Rattle.rules.specs.Groups.{TextUnit, units}
@@ -17,7 +17,7 @@ use Rattle.rules.specs.Breaks.{runs, noBreaking}
 use Rattle.rules.specs.Adjustment.{compose}
 use Rattle.rules.specs.Sheet.{measureOf, indentOf, slotAt}
 use Rattle.rules.specs.Refusals.{Answer, says, EditAnswer, asEdit, Outcome, orElse, judged, edited, slotRows}
-use Rattle.rules.specs.Refusals.{editSlot, callRows, onSlot}
+use Rattle.rules.specs.Refusals.{editSlot, callRows, called, onSlot}
 use Rattle.rules.specs.Meanings.{All, Choice, Fits, FirstWide, FirstLacking, Listed}
 use Rattle.rules.proofs.Claims.{no-12-exactly, answer-12-exactly, no-10-exactly, answer-10}
 use Rattle.rules.proofs.Facts.{some-none}
@@ -94,13 +94,18 @@ module _ (ws : List ℕ) (caller k place deleted : ℕ) (inserted : List ℕ) wh
         records = judged-12 m x new (p .1) .0;
       }
 
-  -- where no earlier answer is due, the answer is that of the records from there on
-  due-12 : Reached12 → (i : ℕ) → notListed 0 new ≡ some i → out .0 .number ≡ 12
-  unfolding slotRows editSlot judged
-  due-12 h i e =
+  -- past the rows 1 to 7 the answer is that of the new records
+  past-7 : called ws caller k .number ≡ 0 →
+      firstOf (slotRows before place deleted inserted) (says 0 0) .number ≡ 0 → out .0 .number ≡ judged m x new .number
+  unfolding slotRows editSlot
+  past-7 e r =
       let rows = slotRows before place deleted inserted in
-      ap (λ (o : Outcome EditAnswer). o .0 .number) (on-entering asEdit ws caller k here (h .call))
-      ∙ same-number (under-table rows _ (passed 0 rows (says 0 0) refl (h .slot) .0)) ∙ rw (h .records, e)
+      ap (λ (o : Outcome EditAnswer). o .0 .number) (on-entering asEdit ws caller k here e)
+      ∙ same-number (under-table rows _ (passed 0 rows (says 0 0) refl r .0))
+
+  due-12 : Reached12 → (i : ℕ) → notListed 0 new ≡ some i → out .0 .number ≡ 12
+  unfolding judged
+  due-12 h i e = past-7 (h .call) (h .slot) ∙ rw (h .records, e)
 
   by-listed : Reached12 → (All Listed new → ⊥) → (o : Option ℕ) → notListed 0 new ≡ o → out .0 .number ≡ 12
   by-listed h n none e = absurd (n (no-12-exactly new .0 e))
@@ -143,11 +148,8 @@ module _ (ws : List ℕ) (caller k place deleted : ℕ) (inserted : List ℕ) wh
 
   -- and where none of them is due, the answer is that of the breaking
   due-10 : NoneDue → out .0 .number ≡ orElse 10 (noBreaking m x us) (says 0 (length (compose m x us))) .number
-  unfolding slotRows editSlot judged
-  due-10 h =
-      let rows = slotRows before place deleted inserted in
-      ap (λ (o : Outcome EditAnswer). o .0 .number) (on-entering asEdit ws caller k here (h .call))
-      ∙ same-number (under-table rows _ (passed 0 rows (says 0 0) refl (h .slot) .0)) ∙ rw (h .records, h .listed, h .groups)
+  unfolding judged
+  due-10 h = past-7 (h .call) (h .slot) ∙ rw (h .records, h .listed, h .groups)
 
   by-breaking : (o : Option ℕ) → noBreaking m x us ≡ o →
       out .0 .number ≡ orElse 10 o (says 0 (length (compose m x us))) .number →

@@ -90,7 +90,8 @@ module _ (s : List ℕ) (p d : ℕ) (ins : List ℕ) (len : length s ≡ 2824) (
     pub replaceable : limitsOk (measureOf s) (indentOf s) ≡ true →
         Replaceable s list ((countOf s - d) * 6 + length ins)
     pub records : paragraph (take ((countOf s - d) * 6 + length ins) list) ≡ edited s p d ins
-    pub listed : All IsListed (recordsOf s) → ListedBut (take ((countOf s - d) * 6 + length ins) list) p (p + length ins / 6)
+    pub listed : All IsListed (recordsOf s) →
+        ListedBut (take ((countOf s - d) * 6 + length ins) list) p (p + length ins / 6)
     pub new-few : length (edited s p d ins) ≤ 256
 
   pub new-list : (list : List ℕ) →

@@ -1,7 +1,6 @@
 -- `compose::paragraph::check` meets its contract: the records are judged, then how they break. Assumes nothing.
 use Rattle.compose.proofs.Answers.{starting}
 use Rattle.compose.proofs.Faults.{all-new}
-use borrow.Author.Needs.{needs}
 use Rattle.compose.proofs.paragraph.check.Statement.{statement}
 use Rattle.compose.proofs.paragraph.check.Tie as tie
 

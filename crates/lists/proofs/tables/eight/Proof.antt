@@ -1,4 +1,4 @@
--- `lists::tables::eight` meets its contract: an arm for each entry of the table, in order, and 0 past its end.
+-- `lists::tables::eight` meets its contract: an arm for each number of the table, and 0 past its end.
 -- Made by tools/lists/make.py; edit that.
 -- Assumes nothing.
 use Rattle.lists.specs.Table.{eights}
