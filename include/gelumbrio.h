@@ -35,11 +35,12 @@ typedef struct SlotNumber { uint32_t number; } SlotNumber; /* from 0 */
  *   2  the slot number is P or more                                   0
  *   3  the caller is 0, or is not the slot's clinic                   0
  *   4  the slot's measure or indent is out of limits, its count is
- *      over 256, or its stored records fall under 8, 9 or 10          0
+ *      over 256, or its stored records fall under 8, 12, 9 or 10      0
  *   5  the place exceeds the count, or the deletion passes the end    the count
  *   6  the inserted words are not a multiple of 6                     0
  *   7  more than 256 records would result                             0
  *   8  a resulting record breaks its own rules                        the first such record
+ *  12  the published list of a record's class lacks its code point    the first such record
  *   9  a group rule is broken                                         the first such record
  *  10  no breaking exists                                             the first record of the first too wide run
  *  11  set-up: a clinic, measure or indent out of limits              the first such slot
@@ -73,6 +74,14 @@ uint32_t gelumbrio_read_number(const uint32_t *sheet, size_t sheet_length, Clini
 
 /* Where in the sheet the slot's used line words stand. */
 Part gelumbrio_read(const uint32_t *sheet, size_t sheet_length, Clinic caller, SlotNumber slot);
+
+/* 1 where the list of this class has the code point, else 0; any numbers are taken. The lists are those of JLReq,
+ * Annex A, without its entries of two code points; class 19's has the unified ideographs of Unicode 15.1 too. A number
+ * that is none of the eighteen classes has no list. */
+uint32_t gelumbrio_in_list(uint32_t class_number, uint32_t code);
+
+/* The class that a code point gets: 27 where that list has it, else the lowest-numbered list's, else 0. */
+uint32_t gelumbrio_class_of(uint32_t code);
 
 /* The offset of ruby character k from the start of a group of this base advance, ruby count and size. */
 RubyPlace gelumbrio_ruby_place(uint32_t base_advance, uint32_t ruby_count, uint32_t size, uint32_t k);
