@@ -18,9 +18,9 @@ use Rattle.rules.specs.Groups.{sameGroup, badGroup, groupFault}
 use Rattle.rules.specs.Meanings.{All, all-none}
 use Rattle.rules.proofs.Facts.{ordered}
 use Rattle.rules.proofs.FirstFailing.{all-pass, pass-over}
-use Rattle.rules.proofs.Words.{length-records, drop-records}
+use Rattle.rules.proofs.Words.{length-records}
 use Rattle.compose.specs.Paragraph.{size, paragraph, IsListed, ListedBut, placeOr}
-use Rattle.compose.proofs.Walk.{records-from}
+use Rattle.compose.proofs.Walk.{records-from, records-left}
 
 records-end : (ws : List ℕ) (i : ℕ) → size ws ≤ i → records ws i (size ws - i) ≡ []
 unfolding records
@@ -55,14 +55,11 @@ module _ {t : Rec → Bool} {ws : List ℕ} where
   passed-end {i} h s = rw (← s .same, records-end ws i h)
 
 -- Answer 12 is asked up to a record `end`: the records before i are listed, and so are those from `end` on
-pub record Asked (ws : List ℕ) (end i : ℕ) : Type 0 where
+pub record AskedTo (ws : List ℕ) (end i : ℕ) : Type 0 where
   pub passed : Passed isListed ws i
   pub within : i ≤ end
   pub inside : end ≤ size ws
   pub after : All IsListed (drop end (paragraph ws))
-
-records-left : (ws : List ℕ) (k : ℕ) → k ≤ size ws → drop k (paragraph ws) ≡ records ws k (size ws - k)
-records-left ws k h = rw zero-add at (drop-records ws 0 (size ws) k h)
 
 -- where all records are new, nothing is known
 pub all-new : (ws : List ℕ) → ListedBut ws 0 (size ws)
@@ -71,7 +68,7 @@ all-new ws =
     record { order = omega arith; inside = omega arith; before = all-none; after = rw e all-none }
 
 module _ {ws : List ℕ} where
-  pub asked-start : {start end : ℕ} → ListedBut ws start end → Asked ws end start
+  pub asked-start : {start end : ℕ} → ListedBut ws start end → AskedTo ws end start
   asked-start {start} l =
       let h : start ≤ size ws = omega (arith, l .order, l .inside) in
       let n : start ≤ length (paragraph ws) = omega (arith, length-records ws 0 (size ws)) in
@@ -83,7 +80,7 @@ module _ {ws : List ℕ} where
         after = l .after;
       }
 
-  pub asked-more : {end i : ℕ} → i < end → isListed (recAt ws i) ≡ true → Asked ws end i → Asked ws end (i + 1)
+  pub asked-more : {end i : ℕ} → i < end → isListed (recAt ws i) ≡ true → AskedTo ws end i → AskedTo ws end (i + 1)
   asked-more h e a =
       record {
         passed = passed-more (omega (arith, a .inside)) e (a .passed);
@@ -92,12 +89,12 @@ module _ {ws : List ℕ} where
         after = a .after;
       }
 
-  pub asked-not : {end i : ℕ} → i < end → isListed (recAt ws i) ≡ false → Asked ws end i →
+  pub asked-not : {end i : ℕ} → i < end → isListed (recAt ws i) ≡ false → AskedTo ws end i →
       i ≡ placeOr (size ws) (notListed 0 (paragraph ws))
   unfolding notListed
   asked-not h e a = passed-not (omega (arith, a .inside)) e (a .passed)
 
-  pub asked-end : {end i : ℕ} → end ≤ i → Asked ws end i → size ws ≡ placeOr (size ws) (notListed 0 (paragraph ws))
+  pub asked-end : {end i : ℕ} → end ≤ i → AskedTo ws end i → size ws ≡ placeOr (size ws) (notListed 0 (paragraph ws))
   unfolding notListed
   asked-end {end} {i} h a =
       let k : i ≤ size ws = omega (arith, a .within, a .inside) in

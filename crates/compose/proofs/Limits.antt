@@ -15,17 +15,14 @@ use Rattle.rules.proofs.Facts.{tested, ordered}
 use Rattle.rules.proofs.Limits.{RecordBounds, record-bounds, side-ok, records-ok}
 use Rattle.rules.proofs.GroupLimits.{headCount, units-few, advance-bound-of}
 use Rattle.rules.proofs.GapWords.{GapBounds, gap-bounds}
-use Rattle.rules.proofs.Words.{drop-records}
 use Rattle.compose.specs.Paragraph.{size, paragraph, from, unitAt, nextAt, gapAfter, runAt, Checked}
-use Rattle.compose.proofs.Walk.{records-from, unit-step, unit-last, unit-more}
+use Rattle.compose.proofs.Walk.{records-from, records-left, unit-step, unit-last, unit-more}
 use Rattle.compose.proofs.RunWalk.{run-last, run-more, run-width}
 
 module _ (ws : List ℕ) (k : Checked ws) where
-  dropped : (i : ℕ) → i < size ws → drop i (paragraph ws) ≡ records ws i (size ws - i)
-  dropped i h = let e : 0 + i ≡ i = omega arith in rw e at (drop-records ws 0 (size ws) i (omega arith))
-
   record-ok : (i : ℕ) → i < size ws → recOk (recAt ws i) ≡ true
-  record-ok i h = records-ok 0 (paragraph ws) (k .sound) i (recAt ws i) _ (dropped i h ∙ records-from ws i h)
+  record-ok i h = records-ok 0 (paragraph ws) (k .sound) i (recAt ws i) _
+      (records-left ws i (omega arith) ∙ records-from ws i h)
 
   pub record-limits : (i : ℕ) → i < size ws → RecordBounds (recAt ws i)
   record-limits i h = record-bounds (recAt ws i) (record-ok i h)
@@ -37,7 +34,7 @@ module _ (ws : List ℕ) (k : Checked ws) where
   unfolding from
   unit-records i h =
       let e : headCount (units (drop i (paragraph ws))) ≡ count (unitAt ws i) =
-      ap (λ rs. headCount (units rs)) (dropped i h) ∙ ap headCount (unit-step ws i h .rest) in
+      ap (λ rs. headCount (units rs)) (records-left ws i (omega arith)) ∙ ap headCount (unit-step ws i h .rest) in
       rw e at (units-few (paragraph ws) (k .grouped) i)
 
   -- each record of a unit takes at most 8,000; n records are left from record i on

@@ -2,6 +2,7 @@
 use mathlib.Core.Path.{_≡_, refl, ap, sym, _∙_}
 use Prim.Native.Nat.{ℕ, suc, _+_, _-_, _≤_, _<_}
 use native.Mathlib.Omega.{arith}
+use native.Mathlib.Nat.{zero-add}
 use mathlib.Core.Bool.{Bool, cond}
 use mathlib.Core.List.{List, [], _∷_, _++_}
 use mathlib.Core.Logic.{inl, inr}
@@ -13,10 +14,13 @@ use Rattle.rules.specs.Groups.{TextUnit, sameGroup, units, count}
 use Rattle.rules.proofs.Facts.{tested}
 use Rattle.rules.proofs.Words.{length-records, drop-records}
 use Rattle.rules.proofs.Cuts.{cut-joined, cut-first, cut-tail}
-use Rattle.compose.specs.Paragraph.{size, from, headOr, unitAt, nextAt}
+use Rattle.compose.specs.Paragraph.{size, paragraph, from, headOr, unitAt, nextAt}
+
+-- the records from i on
+pub records-left : (ws : List ℕ) (i : ℕ) → i ≤ size ws → drop i (paragraph ws) ≡ records ws i (size ws - i)
+records-left ws i h = rw zero-add at (drop-records ws 0 (size ws) i h)
 
 module _ (ws : List ℕ) (i : ℕ) (h : i < size ws) where
-  -- the records from i on
   pub records-from : records ws i (size ws - i) ≡ recAt ws i ∷ records ws (i + 1) (size ws - (i + 1))
   unfolding records
   records-from =

@@ -50,13 +50,13 @@ by-passes none (some i) q r n k h e = absurd (true-false (rw (sym e) at h))
 by-passes (some i) l q r n k h e = absurd (true-false (rw (sym e) at h))
 
 -- answers 8, 12 and 9 are not due
-pub record Passed (rs : List Rec) : Type 0 where
+pub record Past9 (rs : List Rec) : Type 0 where
   pub records : badRecord 0 rs ≡ none
   pub listed : notListed 0 rs ≡ none
   pub groups : groupFault rs ≡ none
 
 module _ (m x : ℕ) (rs : List Rec) where
-  pub judged-passes : (k : ℕ) → isIn k (8 ∷ 12 ∷ 9 ∷ []) ≡ false → judged m x rs .number ≡ k → Passed rs
+  pub judged-passes : (k : ℕ) → isIn k (8 ∷ 12 ∷ 9 ∷ []) ≡ false → judged m x rs .number ≡ k → Past9 rs
   unfolding judged
   judged-passes k h e =
       let r = noBreaking m x (units rs) in

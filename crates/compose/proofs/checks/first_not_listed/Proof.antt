@@ -8,12 +8,12 @@ use borrow.Author.Needs.{needs}
 use borrow.Author.Tests.{not-true, not-false}
 use Rattle.rules.specs.Records.{recAt}
 use Rattle.rules.specs.Listed.{isListed}
-use Rattle.compose.proofs.Faults.{Asked, asked-start, asked-more, asked-not, asked-end}
+use Rattle.compose.proofs.Faults.{AskedTo, asked-start, asked-more, asked-not, asked-end}
 use Rattle.compose.proofs.checks.first_not_listed.Statement.{statement}
 use Rattle.compose.proofs.checks.first_not_listed.Tie as tie
 
 abbrev Inv-loop : tie.InvT-loop
-Inv-loop ws start end n i₀ i = Asked ws end i
+Inv-loop ws start end n i₀ i = AskedTo ws end i
 
 abbrev μ-loop : tie.MeasureT-loop
 μ-loop ws start end n i₀ i = end - i
