@@ -1,35 +1,16 @@
 -- A test that the lists give a function's classes at each code point of an interval, which the checker computes by
 -- halves, each half with the ranges that meet it; and what a passed test says.
 -- Assumes nothing.
-use mathlib.Core.Path.{_≡_, refl, sym, _∙_}
-use mathlib.Core.Bool.{Bool, true, false, _&&_, and-eq-true-iff}
-use mathlib.Core.List.{List, [], _∷_}
+use mathlib.Core.Path.{_≡_, sym, _∙_}
+use mathlib.Core.Bool.{Bool, true, _&&_, and-eq-true-iff}
+use mathlib.Core.List.{List}
 use Prim.Native.Nat.{ℕ, zero, suc, _+_, _≤_, _<_}
 use native.Mathlib.Omega.{arith}
 use mathlib.Core.Logic.{inl, inr}
-use lib.Dec.{eqb}
-use borrow.Author.Tests.{eqb-true}
 use Rattle.lists.specs.Lists.{ClassList}
 use Rattle.lists.specs.Entries.{classesWith}
-use Rattle.lists.proofs.Facts.{ordered}
+use Rattle.lists.proofs.Facts.{ordered, same, same-is}
 use Rattle.lists.proofs.Meeting.{listsMeeting, meeting-classes}
-
--- two lists of numbers are the same
-abbrev same : List ℕ → List ℕ → Bool
-same [] [] = true
-same [] (y ∷ ys) = false
-same (x ∷ xs) [] = false
-same (x ∷ xs) (y ∷ ys) = eqb x y && same xs ys
-
-same-is : (xs ys : List ℕ) → same xs ys ≡ true → xs ≡ ys
-same-is [] [] e = refl
-same-is [] (y ∷ ys) e = cc
-same-is (x ∷ xs) [] e = cc
-same-is (x ∷ xs) (y ∷ ys) e =
-    let both = and-eq-true-iff (eqb x y) (same xs ys) .0 e in
-    let h = eqb-true x y (both .0) in
-    let t = same-is xs ys (both .1) in
-    cc
 
 -- 2 to the d
 abbrev pub twoTo : ℕ → ℕ

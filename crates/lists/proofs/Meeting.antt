@@ -16,13 +16,9 @@ use Rattle.lists.specs.Entries.{also, classesWith}
 abbrev pub meets : ℕ → ℕ → Range → Bool
 meets lo n (range a b) = ltb a (lo + n) && leb lo b
 
-abbrev pub keep : Bool → Range → List Range → List Range
-keep true r rs = r ∷ rs
-keep false r rs = rs
-
 abbrev pub rangesMeeting : ℕ → ℕ → List Range → List Range
 rangesMeeting lo n [] = []
-rangesMeeting lo n (r ∷ rs) = keep (meets lo n r) r (rangesMeeting lo n rs)
+rangesMeeting lo n (r ∷ rs) = also (meets lo n r) r (rangesMeeting lo n rs)
 
 -- a list with no range left is dropped
 abbrev pub keepList : ℕ → List Range → List ClassList → List ClassList
@@ -49,7 +45,7 @@ meeting-has lo n k h g [] = refl
 meeting-has lo n k h g (range a b ∷ rs) = cases (meets lo n (range a b)) refl (meeting-has lo n k h g rs)
   where
     cases : (t : Bool) → meets lo n (range a b) ≡ t → hasCode k (rangesMeeting lo n rs) ≡ hasCode k rs →
-        hasCode k (keep t (range a b) (rangesMeeting lo n rs)) ≡ (inRange k (range a b) || hasCode k rs)
+        hasCode k (also t (range a b) (rangesMeeting lo n rs)) ≡ (inRange k (range a b) || hasCode k rs)
     cases true p e = ap (λ t. inRange k (range a b) || t) e
     cases false p e = e ∙ sym (ap (λ t. t || hasCode k rs) (missed lo n k h g a b p))
 

@@ -3,9 +3,10 @@
 -- A row wants, in one list: the answer's number and place (0 and the line count where it is accepted), the place
 -- words, the line words, and the offsets of the ruby characters of each group. Assumes nothing.
 use Prim.Native.Nat.{ℕ, zero, suc, _-_}
-use mathlib.Core.Bool.{Bool, true, false, cond, _&&_}
+use mathlib.Core.Bool.{Bool, true, cond, _&&_}
 use mathlib.Core.List.{List, [], _∷_, _++_}
 use lib.Dec.{eqb}
+use Rattle.lists.proofs.Facts.{same}
 use Rattle.rules.specs.Records.{Rec}
 use Rattle.rules.specs.Groups.{TextUnit, units, baseTotal, rubyPlace}
 use Rattle.rules.specs.Adjustment.{compose}
@@ -45,17 +46,11 @@ pub record Row : Type 0 where
 abbrev pub row : ℕ → List Rec → List ℕ → Row
 row m t w = record { measure = m; text = t; want = w }
 
-pub same : List ℕ → List ℕ → Bool
-same [] [] = true
-same [] (b ∷ bs) = false
-same (a ∷ l) [] = false
-same (a ∷ l) (b ∷ bs) = eqb a b && same l bs
-
 pub right : List Row → Bool
 right [] = true
 right (r ∷ rs) = same (given (r .measure) (r .text)) (r .want) && right rs
 
 -- one name for what a claim over rows computes
 unfoldable pub worked : Unit {0}
-unfolding computed rubyFrom rubies given same right
+unfolding computed rubyFrom rubies given right
 worked = tt
