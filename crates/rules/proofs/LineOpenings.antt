@@ -53,7 +53,7 @@ pub comma-barred : NeverOpens 0x3001
 unfolding lists
 comma-barred = never-opens-by 0x3001 refl
 
--- a record that is listed under a barred class is in no group, so that a break before it is forbidden
+-- a break before a barred class is forbidden, whatever stands on its left
 bars : (l r : Side) → barred (r .class) ≡ true → forbidden l r ≡ true
 unfolding forbidden
 bars l r e = rw e
