@@ -1,0 +1,136 @@
+-- Table 3-7 of Unicode 15.1 is `utf8` of the scalar values: `next` finds a character's code point in its bytes. Assumes
+-- nothing.
+use mathlib.Core.Path.{_≡_, refl, sym, ap, _∙_}
+use Prim.Native.Nat.{ℕ, _+_, _*_, _-_, _/_, _%_, _≤_, _<_}
+use native.Mathlib.Omega.{arith}
+use mathlib.Core.Bool.{Bool, true, false, not, _&&_}
+use mathlib.Core.List.{List, [], _∷_, _++_}
+use mathlib.Core.Logic.{_⊎_, inl, inr}
+use lib.Dec.{leb, ltb, eqb}
+use borrow.Author.Tests.{lt-ltb, le-ltb, le-leb, lt-leb, leb-true, leb-false, ltb-true, ltb-false, eqb-true, ne-eqb, not-true}
+use borrow.Author.Tests.{eqb-false}
+use Rattle.rules.specs.Basics.{within}
+use Rattle.rules.specs.Records.{codeOk}
+use Rattle.leaflet.specs.Utf8.{more, utf8}
+use Rattle.leaflet.specs.Items.{Item, char}
+use Rattle.leaflet.specs.Decoding.{Next, nothing, found, low, high, goesOn, second, two, three, four, nextChar}
+use Rattle.leaflet.proofs.Facts.{tested, both, true-false}
+
+pub ordered : (a b : ℕ) → (a < b) ⊎ (b ≤ a)
+ordered a b = elim (tested (ltb a b)) [ inl e ↦ inl (ltb-true a b e) | inr e ↦ inr (ltb-false a b e) ]
+
+pub inside : (lo hi x : ℕ) → lo ≤ x → x ≤ hi → within lo hi x ≡ true
+inside lo hi x h k = rw (le-leb lo x h, le-leb x hi k)
+
+pub below : (lo hi x : ℕ) → x < lo → within lo hi x ≡ false
+below lo hi x h = rw (lt-leb lo x h)
+
+pub above : (lo hi x : ℕ) → hi < x → within lo hi x ≡ false
+above lo hi x h = elim (tested (leb lo x)) [ inl e ↦ rw (e, lt-leb x hi h) | inr e ↦ rw e ]
+
+-- the second byte's range
+pub low-under : (b x : ℕ) → (b ≡ 0xE0 → 0xA0 ≤ x) → (b ≡ 0xF0 → 0x90 ≤ x) → 0x80 ≤ x → low b ≤ x
+low-under b x f g h =
+    elim (tested (eqb b 0xE0)) [
+      | inl e ↦ rw e (f (eqb-true b 0xE0 e))
+      | inr e ↦ elim (tested (eqb b 0xF0)) [ inl d ↦ rw (e, d) (g (eqb-true b 0xF0 d)) | inr d ↦ rw (e, d) h ]
+    ]
+
+pub under-high : (b x : ℕ) → (b ≡ 0xED → x ≤ 0x9F) → (b ≡ 0xF4 → x ≤ 0x8F) → x ≤ 0xBF → x ≤ high b
+under-high b x f g h =
+    elim (tested (eqb b 0xED)) [
+      | inl e ↦ rw e (f (eqb-true b 0xED e))
+      | inr e ↦ elim (tested (eqb b 0xF4)) [ inl d ↦ rw (e, d) (g (eqb-true b 0xF4 d)) | inr d ↦ rw (e, d) h ]
+    ]
+
+-- a scalar value is below the surrogates or above them
+pub codeOk-sides : (c : ℕ) → codeOk c ≡ true → (c ≤ 0x10FFFF) × ((c < 0xD800) ⊎ (0xDFFF < c))
+unfolding codeOk
+codeOk-sides c e = (leb-true c 0x10FFFF (p .0), sides)
+  where
+    p : (leb c 0x10FFFF ≡ true) × (not (within 0xD800 0xDFFF c) ≡ true)
+    p = both (leb c 0x10FFFF) (not (within 0xD800 0xDFFF c)) e
+
+    sides : (c < 0xD800) ⊎ (0xDFFF < c)
+    sides =
+        elim (ordered c 0xD800) [
+          | inl h ↦ inl h
+          | inr h ↦ elim (ordered 0xDFFF c) [
+            | inl k ↦ inr k
+            | inr k ↦ absurd (true-false (sym (inside 0xD800 0xDFFF c h k) ∙ not-true _ (p .1)))
+          ]
+        ]
+
+-- the bytes of a code point, by their number
+pub one-byte : (c : ℕ) → c < 128 → utf8 c ≡ c ∷ []
+unfolding utf8
+one-byte c h = simp (lt-ltb c 128 h)
+
+pub two-bytes : (c : ℕ) → 128 ≤ c → c < 2048 → utf8 c ≡ (192 + c / 64) ∷ more c ∷ []
+unfolding utf8
+two-bytes c h k = simp (le-ltb c 128 h, lt-ltb c 2048 k)
+
+pub three-bytes : (c : ℕ) → 2048 ≤ c → c < 65536 → utf8 c ≡ (224 + c / 4096) ∷ more (c / 64) ∷ more c ∷ []
+unfolding utf8
+three-bytes c h k = simp (le-ltb c 128 (omega arith), le-ltb c 2048 h, lt-ltb c 65536 k)
+
+pub four-bytes : (c : ℕ) → 65536 ≤ c → utf8 c ≡ (240 + c / 262144) ∷ more (c / 4096) ∷ more (c / 64) ∷ more c ∷ []
+unfolding utf8
+four-bytes c h = simp (le-ltb c 128 (omega arith), le-ltb c 2048 (omega arith), le-ltb c 65536 h)
+
+-- From a code point to its bytes and back ---------------------------------------------------------------------------
+
+pub back-two : (c : ℕ) (ds : List ℕ) → 128 ≤ c → c < 2048 →
+    nextChar (192 + c / 64) (more c ∷ ds) ≡ found (char c) ds
+unfolding nextChar two
+back-two c ds h k =
+    let e : (192 + c / 64 - 192) * 64 + (more c - 128) ≡ c = omega arith in
+    rw (
+      le-ltb (192 + c / 64) 0x80 (omega arith),
+      inside 0xC2 0xDF (192 + c / 64) (omega arith) (omega arith),
+      inside 0x80 0xBF (more c) (omega arith) (omega arith),
+      e,
+    )
+
+pub back-three : (c : ℕ) (ds : List ℕ) → codeOk c ≡ true → 2048 ≤ c → c < 65536 →
+    nextChar (224 + c / 4096) (more (c / 64) ∷ more c ∷ ds) ≡ found (char c) ds
+unfolding nextChar three
+back-three c ds s h k =
+    let b = 224 + c / 4096 in
+    let e : (b - 224) * 4096 + (more (c / 64) - 128) * 64 + (more c - 128) ≡ c = omega arith in
+    let l : low b ≤ more (c / 64) = low-under b (more (c / 64)) (λ z. omega arith) (λ z. omega arith) (omega arith) in
+    let u : more (c / 64) ≤ high b =
+    elim (codeOk-sides c s .1) [
+      | inl z ↦ under-high b (more (c / 64)) (λ y. omega arith) (λ y. omega arith) (omega arith)
+      | inr z ↦ under-high b (more (c / 64)) (λ y. omega arith) (λ y. omega arith) (omega arith)
+    ] in
+    rw (
+      le-ltb b 0x80 (omega arith),
+      above 0xC2 0xDF b (omega arith),
+      inside 0xE0 0xEF b (omega arith) (omega arith),
+      inside (low b) (high b) (more (c / 64)) l u,
+      inside 0x80 0xBF (more c) (omega arith) (omega arith),
+      e,
+    )
+
+pub back-four : (c : ℕ) (ds : List ℕ) → 65536 ≤ c → c ≤ 0x10FFFF →
+    nextChar (240 + c / 262144) (more (c / 4096) ∷ more (c / 64) ∷ more c ∷ ds) ≡ found (char c) ds
+unfolding nextChar four
+back-four c ds h k =
+    let b = 240 + c / 262144 in
+    let x = more (c / 4096) in
+    let v : c / 64 / 64 ≡ c / 4096 = omega arith in
+    let w : c / 4096 / 64 ≡ c / 262144 = omega arith in
+    let e : (b - 240) * 262144 + (x - 128) * 4096 + (more (c / 64) - 128) * 64 + (more c - 128) ≡ c = omega arith in
+    let l : low b ≤ x = low-under b x (λ z. omega arith) (λ z. omega arith) (omega arith) in
+    let u : x ≤ high b = under-high b x (λ y. omega arith) (λ y. omega arith) (omega arith) in
+    rw (
+      le-ltb b 0x80 (omega arith),
+      above 0xC2 0xDF b (omega arith),
+      above 0xE0 0xEF b (omega arith),
+      inside 0xF0 0xF4 b (omega arith) (omega arith),
+      inside (low b) (high b) x l u,
+      inside 0x80 0xBF (more (c / 64)) (omega arith) (omega arith),
+      inside 0x80 0xBF (more c) (omega arith) (omega arith),
+      e,
+    )

@@ -1,0 +1,27 @@
+-- Laws of the leaflet's definitions. `Claims` states what is proved of them, in reading order.
+pub mod Facts
+pub mod PlainClass
+pub mod Moves
+pub mod Rests
+pub mod Runs
+pub mod Readings
+pub mod Gathers
+pub mod Codes
+pub mod Rows
+pub mod FourBytes
+pub mod Nexts
+pub mod Elements
+pub mod Scans
+pub mod Places
+pub mod Ends
+pub mod Standings
+pub mod Examples
+pub mod Claims
+pub mod Finds
+pub mod Firsts
+pub mod Starts
+pub mod Walks
+pub mod Walked
+pub mod Marked
+pub mod Aheads
+pub mod Counts

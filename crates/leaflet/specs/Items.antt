@@ -1,0 +1,34 @@
+-- request 05: what a text is made of, and its bytes.
+--
+--   tag          one of six, "bare lower-case tags, end tags written out"
+--   item         a character, by its code point, or a tag
+--   bytes        the text of items: one after the other, nothing between
+--
+-- Assumes nothing.
+use Prim.Native.Nat.{ℕ}
+use mathlib.Core.List.{List, [], _∷_, _++_}
+use Rattle.leaflet.specs.Utf8.{utf8}
+
+pub data Tag : Type 0 where
+  ruby ruby-end rt rt-end rp rp-end : Tag
+
+pub data Item : Type 0 where
+  char : ℕ → Item
+  tag : Tag → Item
+
+-- <ruby> </ruby> <rt> </rt> <rp> </rp>
+unfoldable pub tagBytes : Tag → List ℕ
+tagBytes ruby = 60 ∷ 114 ∷ 117 ∷ 98 ∷ 121 ∷ 62 ∷ []
+tagBytes ruby-end = 60 ∷ 47 ∷ 114 ∷ 117 ∷ 98 ∷ 121 ∷ 62 ∷ []
+tagBytes rt = 60 ∷ 114 ∷ 116 ∷ 62 ∷ []
+tagBytes rt-end = 60 ∷ 47 ∷ 114 ∷ 116 ∷ 62 ∷ []
+tagBytes rp = 60 ∷ 114 ∷ 112 ∷ 62 ∷ []
+tagBytes rp-end = 60 ∷ 47 ∷ 114 ∷ 112 ∷ 62 ∷ []
+
+unfoldable pub itemBytes : Item → List ℕ
+itemBytes (char c) = utf8 c
+itemBytes (tag t) = tagBytes t
+
+unfoldable pub bytes : List Item → List ℕ
+bytes [] = []
+bytes (i ∷ is) = itemBytes i ++ bytes is

@@ -1,0 +1,60 @@
+-- The records of items, from the first to the last, as a program writes them. proofs/Marked.antt proves that they are
+-- those of the content.
+--
+--   letter run   the characters before the next tag
+--   rt ahead     the character count of the next rt
+--   written      the records of items of size s: k groups are begun, the last with n ruby characters
+--
+-- Assumes nothing.
+use Prim.Native.Nat.{ℕ, suc}
+use mathlib.Core.Bool.{cond}
+use mathlib.Core.List.{List, [], _∷_}
+use mathlib.Core.Option.{Option, none, some}
+use Rattle.rules.specs.Records.{Rec}
+use Rattle.leaflet.specs.Items.{Item, char, tag, Tag}
+use Rattle.leaflet.specs.Imported.{asWord, recordOf}
+use Rattle.leaflet.specs.Spots.{Spot, outside, wantsPlain, isOutside, step}
+
+unfoldable pub letterRun : List Item → ℕ
+letterRun [] = 0
+letterRun (char c ∷ is) = suc (letterRun is)
+letterRun (tag t ∷ is) = 0
+
+abbrev pub ifRt : {A : Type 0} → Tag → A → A → A
+ifRt Tag.ruby a b = b
+ifRt Tag.ruby-end a b = b
+ifRt Tag.rt a b = a
+ifRt Tag.rt-end a b = b
+ifRt Tag.rp a b = b
+ifRt Tag.rp-end a b = b
+
+abbrev pub ifRuby : {A : Type 0} → Tag → A → A → A
+ifRuby Tag.ruby a b = a
+ifRuby Tag.ruby-end a b = b
+ifRuby Tag.rt a b = b
+ifRuby Tag.rt-end a b = b
+ifRuby Tag.rp a b = b
+ifRuby Tag.rp-end a b = b
+
+unfoldable pub rtAhead : List Item → ℕ
+rtAhead [] = 0
+rtAhead (char c ∷ is) = rtAhead is
+rtAhead (tag t ∷ is) = ifRt t (letterRun is) (rtAhead is)
+
+abbrev pub toward : Option Spot → Spot
+toward none = outside
+toward (some q) = q
+
+-- outside ruby elements a record is in no group, and has no ruby
+abbrev pub inGroup : Spot → ℕ → ℕ
+inGroup q k = cond (isOutside q) 0 (asWord k)
+
+-- a character's record, if it has one, before others: in rt and rp it is not kept
+unfoldable pub kept : ℕ → Spot → ℕ → ℕ → ℕ → List Rec → List Rec
+kept s q k n c rs = cond (wantsPlain q) (recordOf s (inGroup q k) (inGroup q n) c ∷ rs) rs
+
+unfoldable pub written : ℕ → Spot → ℕ → ℕ → List Item → List Rec
+written s q k n [] = []
+written s q k n (char c ∷ is) = kept s q k n c (written s (toward (step q (char c))) k n is)
+written s q k n (tag t ∷ is) =
+    written s (toward (step q (tag t))) (ifRuby t (suc k) k) (ifRuby t (rtAhead is) n) is

@@ -1,0 +1,130 @@
+// The reader: item by item, from the text's start.
+ghost use mathlib.Core.Path.{_≡_};
+ghost use Prim.Native.Nat.{_<_, _≤_};
+ghost use lib.ListN.{length, drop};
+ghost use Rattle.leaflet.specs.Reader.{faultFrom};
+ghost use Rattle.leaflet.specs.Values.{spotOf, pastOf, AheadAt, outcomeOf, filledAs, ReadAs};
+use crate::ahead::groups_past;
+use crate::ahead::ruby_past;
+use crate::items::Found;
+use crate::items::item_at;
+use crate::records::Put;
+use crate::records::put_letter;
+use crate::spots::Spot;
+use crate::spots::Step;
+use crate::spots::after_char;
+use crate::spots::after_tag;
+use crate::spots::is_outside;
+use crate::spots::past_letter;
+
+pub(crate) enum Ahead {
+    Stopped,
+    // past an item: the next spot, and the item's bytes
+    Past(Spot, usize),
+}
+
+// How what is left of a text ends.
+pub(crate) enum Outcome {
+    Whole,
+    // the offset that answer 17 names
+    Fault(usize),
+}
+
+pub enum Reading {
+    // the offset that answer 17 names
+    Fault(usize),
+    // how many words of records were put
+    Words(usize),
+}
+
+fn past(step: Step, width: usize) -> Ahead
+    ensures { λ r. ⌜ r ≡ pastOf step width ⌝ }
+{
+    match step {
+        Step::To(p) => Ahead::Past(p, width),
+        Step::Refused => Ahead::Stopped,
+    }
+}
+
+fn look(s: &[u8], at: usize, q: Spot) -> Ahead
+    requires { ⌜ at < length (now s) ⌝ }
+    ensures { λ r. ⌜ AheadAt (now (s .entry)) at (spotOf q) r ⌝ }
+{
+    match item_at(s, at) {
+        Found::Nothing => Ahead::Stopped,
+        Found::Letter(c, width) => past(after_char(q, c), width),
+        Found::Markup(t, width) => past(after_tag(q, t), width),
+    }
+}
+
+// Answer 17's place from an offset on, if it is due.
+fn fault_from(s: &[u8], start: usize, spot: Spot) -> Outcome
+    requires { ⌜ start ≤ length (now s) ⌝ }
+    ensures { λ r. ⌜ outcomeOf r ≡ faultFrom (spotOf spot) start (drop start (now (s .entry))) ⌝ }
+{
+    let mut q = spot;
+    let mut at = start;
+    while at < s.len() {
+        match look(s, at, q) {
+            Ahead::Stopped => return Outcome::Fault(at),
+            Ahead::Past(p, width) => {
+                q = p;
+                at += width;
+            }
+        }
+    }
+    if is_outside(q) {
+        return Outcome::Whole;
+    }
+    Outcome::Fault(at)
+}
+
+// A reading for which there is no more room after `i` words.
+fn filled(outcome: Outcome, i: usize) -> Reading
+    ensures { λ r. ⌜ r ≡ filledAs outcome i ⌝ }
+{
+    match outcome {
+        Outcome::Whole => Reading::Words(i),
+        Outcome::Fault(at) => Reading::Fault(at),
+    }
+}
+
+// Reads a text into words of records of a size. There is room for one record more than a slot holds, so that edit
+// finds them too many; what comes after it is read for faults alone.
+pub fn read_leaflet(s: &[u8], size: u32, words: &mut [u32; 1542]) -> Reading
+    ensures { λ r. ⌜ ReadAs (now (s .entry)) size (now (words .exit)) r ⌝ }
+{
+    let mut q = Spot::Outside;
+    let mut at = 0;
+    // groups begun, the ruby count of the last, words put
+    let mut k = 0;
+    let mut n = 0;
+    let mut i = 0;
+    while at < s.len() {
+        match item_at(s, at) {
+            Found::Nothing => return Reading::Fault(at),
+            Found::Letter(c, width) => match put_letter(words, i, q, c, size, k, n) {
+                Put::Refused => return Reading::Fault(at),
+                Put::Full => return filled(fault_from(s, at, q), i),
+                Put::Next(j) => {
+                    i = j;
+                    q = past_letter(q);
+                    at += width;
+                }
+            },
+            Found::Markup(t, width) => match after_tag(q, t) {
+                Step::Refused => return Reading::Fault(at),
+                Step::To(p) => {
+                    at += width;
+                    k = groups_past(t, k);
+                    n = ruby_past(s, at, t, n);
+                    q = p;
+                }
+            },
+        }
+    }
+    if is_outside(q) {
+        return Reading::Words(i);
+    }
+    Reading::Fault(at)
+}

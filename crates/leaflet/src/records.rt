@@ -1,0 +1,102 @@
+// The records that characters become.
+ghost use mathlib.Core.Path.{_≡_};
+ghost use mathlib.Core.List.{[], _∷_};
+ghost use Prim.Native.Nat.{_+_, _≤_};
+ghost use lib.Seq.{sets};
+ghost use Rattle.leaflet.specs.Imported.{asWord, advanceOf};
+ghost use Rattle.leaflet.specs.Written.{inGroup};
+ghost use Rattle.leaflet.specs.Values.{spotOf, passedAs, Putting};
+use crate::letters::plain_class;
+use crate::spots::Spot;
+use crate::spots::Step;
+use crate::spots::after_char;
+use crate::spots::is_outside;
+use crate::spots::wants_plain;
+
+// A count as a word; what is beyond 32 bits stands as the largest.
+fn as_word(n: usize) -> u32
+    ensures { λ r. ⌜ r ≡ asWord n ⌝ }
+{
+    if n < 4294967296 {
+        n as u32
+    } else {
+        4294967295
+    }
+}
+
+// A group number or ruby count at a spot: 0 outside ruby elements.
+fn in_group(q: Spot, n: usize) -> u32
+    ensures { λ r. ⌜ r ≡ inGroup (spotOf q) n ⌝ }
+{
+    if is_outside(q) { 0 } else { as_word(n) }
+}
+
+// The advance that an import gives a class: half the size for 1, 2, 3, 5, 6, 7 and 27, else the size.
+fn advance_of(class: u32, size: u32) -> u32
+    ensures { λ r. ⌜ r ≡ advanceOf class size ⌝ }
+{
+    let punctuation = (class == 1) | (class == 2) | (class == 5) | (class == 6) | (class == 7);
+    if punctuation | (class == 3) | (class == 27) {
+        size / 2
+    } else {
+        size
+    }
+}
+
+fn put_record(words: &mut [u32; 1542], i: usize, c: u32, class: u32, size: u32, g: u32, n: u32)
+    requires { ⌜ i + 6 ≤ 1542 ⌝ }
+    ensures { λ _. ⌜ now (words .exit)
+        ≡ sets (now (words .entry)) i (c ∷ class ∷ size ∷ advanceOf class size ∷ g ∷ n ∷ []) ⌝ }
+{
+    words[i] = c;
+    words[i + 1] = class;
+    words[i + 2] = size;
+    words[i + 3] = advance_of(class, size);
+    words[i + 4] = g;
+    words[i + 5] = n;
+}
+
+pub(crate) enum Put {
+    // the character may not stand at this spot
+    Refused,
+    Full,
+    // its record is put, if it has one: where the next one goes
+    Next(usize),
+}
+
+// A character without a record.
+fn passed(step: Step, i: usize) -> Put
+    ensures { λ r. ⌜ r ≡ passedAs step i ⌝ }
+{
+    match step {
+        Step::To(_) => Put::Next(i),
+        Step::Refused => Put::Refused,
+    }
+}
+
+// Puts the record of a character at a spot, if it has one, after `k` groups, the last of `n` ruby characters.
+pub(crate) fn put_letter(
+    words: &mut [u32; 1542],
+    i: usize,
+    q: Spot,
+    c: u32,
+    size: u32,
+    k: usize,
+    n: usize,
+) -> Put
+    requires { ⌜ i ≤ 1542 ⌝ }
+    ensures { λ r. ⌜ Putting (now (words .entry)) (now (words .exit)) i size (spotOf q) k n c r ⌝ }
+{
+    if !wants_plain(q) {
+        return passed(after_char(q, c), i);
+    }
+    let class = plain_class(c);
+    if class == 0 {
+        return Put::Refused;
+    }
+    if 1542 - i < 6 {
+        return Put::Full;
+    }
+    put_record(words, i, c, class, size, in_group(q, k), in_group(q, n));
+    Put::Next(i + 6)
+}
