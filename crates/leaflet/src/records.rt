@@ -18,11 +18,7 @@ use crate::spots::wants_plain;
 fn as_word(n: usize) -> u32
     ensures { λ r. ⌜ r ≡ asWord n ⌝ }
 {
-    if n < 4294967296 {
-        n as u32
-    } else {
-        4294967295
-    }
+    if n < 4294967296 { n as u32 } else { 4294967295 }
 }
 
 // A group number or ruby count at a spot: 0 outside ruby elements.
@@ -108,6 +104,15 @@ pub(crate) fn put_letter(
         return Put::Full;
     }
     let advance = advance_of(class, size);
-    put_record(words, i, c, class, size, advance, in_group(q, k), in_group(q, n));
+    put_record(
+        words,
+        i,
+        c,
+        class,
+        size,
+        advance,
+        in_group(q, k),
+        in_group(q, n),
+    );
     Put::Next(i + 6)
 }
