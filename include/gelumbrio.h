@@ -7,10 +7,10 @@
  *   256 lines of 3 words: first record, end x, kind (1 flush, 2 short, 3 final).
  * A program should lend a sheet of at most 5 slots. That is advice: up to 64 are taken.
  *
- * Every call takes any words, numbers and lengths, and ends. A refused call changes no word of the sheet. Each slice
- * passes as a pointer, then its length in words. With length 0 nothing is read through the pointer, which must still
- * not be NULL. The sheet overlaps no other slice of its call, and nobody else writes to it meanwhile. Link with
- * libgelumbrio.a (`rt staticlib gelumbrio`).
+ * Every call takes any words, bytes, numbers and lengths, and ends. A refused call changes no word of the sheet. Each
+ * slice passes as a pointer, then its length: in words, and in bytes for a text. With length 0 nothing is read through
+ * the pointer, which must still not be NULL. The sheet overlaps no other slice of its call, and nobody else writes to
+ * it meanwhile. Link with libgelumbrio.a (`rt staticlib gelumbrio`).
  */
 #ifndef GELUMBRIO_H
 #define GELUMBRIO_H
@@ -29,6 +29,7 @@ typedef struct Clinic { uint32_t number; } Clinic;         /* 1 to 65,535; 0 is 
 typedef struct SlotNumber { uint32_t number; } SlotNumber; /* from 0 */
 
 /* The answers, in the order they are checked. The place is that of the answer:
+ *  17  import: the text is no leaflet                                 a byte offset, as told below
  *   0  accepted                                                       the line count (set-up: P)
  *   1  the sheet's length is not 2,824 P for a P from 1 to 64,
  *      or a set-up list is not P long                                 0
@@ -57,6 +58,9 @@ typedef struct Answer { uint32_t number, place; } Answer;
 typedef struct EditAnswer { uint32_t number, place, redone; } EditAnswer;
 typedef struct RubyPlace { uint32_t number, offset; } RubyPlace;
 
+/* Import's answer is edit's, or 17. Its place may be the offset of a byte, so it is as wide as one. */
+typedef struct ImportAnswer { uint32_t number, redone; size_t place; } ImportAnswer;
+
 /* A part of the sheet: the words from start up to end; 0, 0 where the read is refused. */
 typedef struct Part { size_t start, end; } Part;
 
@@ -68,6 +72,22 @@ Answer gelumbrio_set_up(uint32_t *sheet, size_t sheet_length, const uint32_t *cl
 /* Takes `deleted` records out at `place`, puts the inserted ones in there, and composes the slot. */
 EditAnswer gelumbrio_edit(uint32_t *sheet, size_t sheet_length, Clinic caller, SlotNumber slot, uint32_t place,
                           uint32_t deleted, const uint32_t *inserted, size_t inserted_length);
+
+/* Reads a leaflet, puts its records in place of all that the slot holds, and composes the slot.
+ *   A leaflet is UTF-8 text, plain characters and ruby elements in any order. An element is <ruby>, a base text,
+ * <rt>, the ruby text, </rt>, </ruby>; or with <rp>, any text or none, </rp> before the <rt> and again after the </rt>.
+ * Tags are written just so. Neither base nor ruby text is empty, and nothing else stands in an element. Inside rt and
+ * rp each code point but < > & may stand. Outside them a character stands that has a class (gelumbrio_class_of), and is
+ * none of these three; so neither a space nor a line's end. The empty text is a leaflet.
+ *   Each character outside rt and rp becomes a record: its class as gelumbrio_class_of gives it, the size named here,
+ * half of it as advance in the classes 1, 2, 3, 5, 6, 7 and 27 and all of it in the others. An element's base becomes a
+ * group, numbered from 1 on, with as many ruby characters as its rt has code points. Then it is the edit at place 0
+ * that deletes all the slot's records and inserts these, and answers as that does.
+ *   17 comes before all other answers and depends on the text alone. It names the offset of the first character, tag
+ * or ill-formed sequence that no leaflet has after what stands before it; where a leaflet could still go on so, the
+ * text's length. A < that starts none of the six tags is named itself, and of an ill-formed sequence the first byte. */
+ImportAnswer gelumbrio_import(uint32_t *sheet, size_t sheet_length, Clinic caller, SlotNumber slot, uint32_t size,
+                              const uint8_t *text, size_t text_length);
 
 /* The number of a read, so that an empty slot and a refusal can be told apart. */
 uint32_t gelumbrio_read_number(const uint32_t *sheet, size_t sheet_length, Clinic caller, SlotNumber slot);
