@@ -3,10 +3,10 @@
 //! The bytes are taken apart into elements, characters and tags, and the elements are then matched with a grammar:
 //!
 //! ```text
-//! leaflet   = { plain character | ruby }
-//! ruby      = <ruby> base { base } ( annotation | rp annotation rp ) </ruby>
+//! leaflet    = { plain character | ruby }
+//! ruby       = <ruby> base { base } ( annotation | rp annotation rp ) </ruby>
 //! annotation = <rt> inner { inner } </rt>
-//! rp        = <rp> { inner } </rp>
+//! rp         = <rp> { inner } </rp>
 //! ```
 //!
 //! A plain character and a base are of some list of request 04, an inner character is any, and none of them is an angle
