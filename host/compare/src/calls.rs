@@ -33,6 +33,17 @@ pub enum Call {
         /// The words to insert.
         inserted: Vec<u32>,
     },
+    /// Import.
+    Import {
+        /// The calling clinic.
+        caller: u32,
+        /// The slot's number.
+        slot: u32,
+        /// The size of every record.
+        size: u32,
+        /// The leaflet, which may be any bytes.
+        text: Vec<u8>,
+    },
     /// Read with its companion.
     Read {
         /// The calling clinic.
@@ -64,6 +75,11 @@ impl Call {
     /// The edit that puts these records in place of the `deleted` ones of slot 0.
     pub fn replace(caller: u32, deleted: u32, inserted: &[u32]) -> Call {
         Call::Edit { caller, slot: 0, place: 0, deleted, inserted: inserted.to_vec() }
+    }
+
+    /// The import of this text into slot 0.
+    pub fn import(caller: u32, size: u32, text: impl AsRef<[u8]>) -> Call {
+        Call::Import { caller, slot: 0, size, text: text.as_ref().to_vec() }
     }
 }
 
@@ -106,6 +122,13 @@ impl fmt::Display for Call {
             Call::Edit { caller, slot, place, deleted, inserted } => {
                 write!(f, "edit: caller {caller}, slot {slot}, place {place}, delete {deleted}, insert")?;
                 inserted.chunks(6).try_for_each(|record| write!(f, "\n    {record:?}"))
+            }
+            Call::Import { caller, slot, size, text } => {
+                write!(f, "import: caller {caller}, slot {slot}, size {size}, ")?;
+                match std::str::from_utf8(text) {
+                    Ok(text) => write!(f, "{} bytes: {text:?}", text.len()),
+                    Err(_) => write!(f, "{} bytes, no UTF-8: b\"{}\"", text.len(), text.escape_ascii()),
+                }
             }
             Call::Read { caller, slot } => write!(f, "read: caller {caller}, slot {slot}"),
             Call::Damage { at, word } => write!(f, "damage: {} becomes {word}", crate::layout::name(*at)),

@@ -77,10 +77,15 @@ impl Excerpt {
     }
 }
 
-/// As text.
+/// As text, in which controls are written out.
 impl fmt::Display for Excerpt {
     fn fmt(&self, f: &mut fmt::Formatter<'_>) -> fmt::Result {
-        f.write_str(&String::from_utf8_lossy(self.as_bytes()))?;
+        for character in String::from_utf8_lossy(self.as_bytes()).chars() {
+            match character.is_control() {
+                true => write!(f, "{}", character.escape_default())?,
+                false => write!(f, "{character}")?,
+            }
+        }
         f.write_str(if self.is_cut { "…" } else { "" })
     }
 }

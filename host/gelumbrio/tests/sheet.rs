@@ -244,6 +244,7 @@ fn a_fault_in_a_leaflet_says_what_stands_where() {
         ("あ<br>い", 3, 2, format!("<br> {of_tags}")),
         ("あ<br<b>", 3, 2, format!("<br {of_tags}")),
         ("あ<a\n>", 3, 2, format!("<a {of_tags}")),
+        ("あ<b\tid>", 3, 2, format!("<b\\tid> {of_tags}")),
         ("あ<ru", 3, 2, format!("<ru {of_tags}")),
         ("<RUBY>", 0, 1, format!("<RUBY> {of_tags}")),
         // Cut before the character that would pass 32 bytes.

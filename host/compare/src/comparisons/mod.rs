@@ -4,6 +4,7 @@ pub mod cases;
 pub mod digits;
 pub mod gaps;
 pub mod junk;
+pub mod leaflet;
 pub mod limits;
 pub mod lists;
 pub mod pairs;
@@ -22,11 +23,12 @@ use crate::Scope;
 pub type Comparison = fn(&dyn Program, Scope) -> Result<Tally, Failure>;
 
 /// All comparisons, the quickest first.
-pub const ALL: [Comparison; 12] = [
+pub const ALL: [Comparison; 13] = [
     cases::compare,
     ruby::compare,
     limits::compare,
     lists::compare,
+    leaflet::compare,
     junk::compare,
     digits::compare,
     pairs::compare,
