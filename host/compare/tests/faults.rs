@@ -5,8 +5,8 @@ use compare::comparisons::{
 };
 use compare::failure::{Failure, NOT_SEEN_AGAIN};
 use compare::faults::{
-    wrong_lists, Fault, Misimport, Misreading, ASKED_WRONGLY, CLASSES_AS, DIGITS, FIELDS, LOOKUPS,
-    MISIMPORTS, MISREADINGS, NARROW_FIELDS, SINGLE, TABLES,
+    wrong_lists, Fault, Misimport, Misreading, ASKED_WRONGLY, CLASSES_AS, DIGITS, FIELDS, IMPORTED_WRONGLY,
+    LOOKUPS, MISIMPORTS, MISREADINGS, NARROW_FIELDS, SINGLE, TABLES,
 };
 use compare::generate::plain;
 use compare::layout::{CLASSES, LINES};
@@ -139,6 +139,14 @@ fn lists_asked_wrongly_in_sequences_and_junk() {
 #[test]
 fn misimports() {
     each_is_found(&MISIMPORTS.map(Fault::Imported), &[leaflet::compare, limits::compare], 3);
+}
+
+/// Those of the call, and not of how a text is read, show among all other calls too.
+#[test]
+fn misimports_in_sequences_and_junk() {
+    let faults = IMPORTED_WRONGLY.map(Fault::Imported);
+    each_is_found(&faults, &[sequences::compare], 8);
+    each_is_found(&faults, &[junk::compare], 8);
 }
 
 /// A reader of another shape reads every text as the second program does.

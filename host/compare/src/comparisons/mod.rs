@@ -28,7 +28,6 @@ pub const ALL: [Comparison; 13] = [
     ruby::compare,
     limits::compare,
     lists::compare,
-    leaflet::compare,
     junk::compare,
     digits::compare,
     pairs::compare,
@@ -37,4 +36,5 @@ pub const ALL: [Comparison; 13] = [
     redone::compare,
     sequences::compare,
     short::compare,
+    leaflet::compare,
 ];

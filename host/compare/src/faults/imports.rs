@@ -191,6 +191,21 @@ pub const MISIMPORTS: [Misimport; 55] = [
     Misimport::ReportsNone,
 ];
 
+/// Those of a text that is read rightly.
+pub const IMPORTED_WRONGLY: [Misimport; 11] = [
+    Misimport::AfterCaller,
+    Misimport::AfterStored,
+    Misimport::AfterCount,
+    Misimport::FaultEmpties,
+    Misimport::FaultReports,
+    Misimport::PlaceInCharacters,
+    Misimport::PlaceIsLength,
+    Misimport::DeletesNothing,
+    Misimport::Appends,
+    Misimport::DeletesLines,
+    Misimport::ReportsNone,
+];
+
 impl Misimport {
     /// The import with this fault.
     pub fn import(self, sheet: &mut [u32], import: Import<'_>) -> ImportAnswer {

@@ -18,7 +18,7 @@ use second::{Answer, Edit, EditAnswer, Import, ImportAnswer, RubyPlace};
 
 use crate::layout::{slot_words, LINES, SLOT};
 use crate::program::{Program, Second, SECOND};
-pub use imports::{Misimport, MISIMPORTS};
+pub use imports::{Misimport, IMPORTED_WRONGLY, MISIMPORTS};
 pub use lists::{wrong_lists, Mislisting, ASKED_WRONGLY, LOOKUPS};
 pub use redone::{Misreading, MISREADINGS};
 use slots::{keep_all_but_heads, keep_texts, whole_slots};
