@@ -146,7 +146,8 @@ fn tag(text: &[u8]) -> &[u8] {
     }
 }
 
-/// The first byte with which an ill-formed text starts, and those after it that can only be later bytes of a character.
+/// The first byte with which an ill-formed text starts, and those after it that can only be later bytes of a
+/// character.
 fn ill_formed(text: &[u8]) -> &[u8] {
     let later = text.iter().take(4).skip(1).take_while(|&&byte| is_later_byte(byte));
     let length = 1 + if is_later_byte(text[0]) { 0 } else { later.count() };

@@ -47,7 +47,8 @@ pub struct ImportAnswer {
     pub number: u32,
     /// How many lines are composed anew; 0 where the import is refused.
     pub redone: u32,
-    /// The line count where the number is 0, a place in bytes of the text where it is 17, otherwise the refusal's place.
+    /// The line count where the number is 0, a place in bytes of the text where it is 17, otherwise the refusal's
+    /// place.
     pub place: usize,
 }
 

@@ -1,6 +1,6 @@
-//! Import (document 02, request 05): all short texts over the tags and a few characters, every code point, bytes about
-//! the ends of the ranges of well-formed sequences, leaflets with every byte changed, texts about the limits of records
-//! and groups, and random texts.
+//! Import (document 02, request 05): all short texts over the tags and a few characters, every code point, bytes
+//! about the ends of the ranges of well-formed sequences, leaflets with every byte changed, texts about the limits
+//! of records and groups, and random texts.
 
 use second::class_of;
 
@@ -44,8 +44,8 @@ pub fn compare(program: &dyn Program, scope: Scope) -> Result<Tally, Failure> {
     Ok(tally)
 }
 
-/// All short texts: of the tags, a character of a list and one that may only stand in rt and rp; and, not so long, with
-/// what may stand nowhere besides.
+/// All short texts: of the tags, a character of a list and one that may only stand in rt and rp; and, not so long,
+/// with what may stand nowhere besides.
 fn short(slot: &mut OneSlot, scope: Scope) -> Result<(), Failure> {
     let characters = ["あ", " "];
     let elements: Vec<&[u8]> = TAGS.iter().chain(&characters).map(|element| element.as_bytes()).collect();
@@ -74,8 +74,8 @@ fn in_rt(characters: &[u8]) -> Vec<u8> {
     [b"<ruby>\xE6\xBC\xA2<rt>", characters, b"</rt></ruby>"].concat()
 }
 
-/// All sequences of three and four bytes that are about the ends of the ranges, in rt, where any character may stand; in
-/// brief with few bytes at the end of four.
+/// All sequences of three and four bytes that are about the ends of the ranges, in rt, where any character may
+/// stand; in brief with few bytes at the end of four.
 fn sequences(slot: &mut OneSlot, scope: Scope) -> Result<(), Failure> {
     for a in BYTES {
         for b in BYTES {

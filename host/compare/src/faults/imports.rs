@@ -1,5 +1,5 @@
-//! Imports with a fault (document 02, request 05): texts misread by a reader of another shape than the second program's,
-//! records made wrongly of a text read rightly, or a wrong edit made with them.
+//! Imports with a fault (document 02, request 05): texts misread by a reader of another shape than the second
+//! program's, records made wrongly of a text read rightly, or a wrong edit made with them.
 
 use second::sheet::record_count;
 use second::{Edit, Import, ImportAnswer};

@@ -8,8 +8,8 @@ use super::grammar::accepts;
 
 const CHARACTER: Element = Element::Character('あ');
 
-/// Two accepted texts. Wherever in the grammar a beginning stops, the rest of one of them completes it: the first where
-/// no rp has been met, the second where one has.
+/// Two accepted texts. Wherever in the grammar a beginning stops, the rest of one of them completes it: the first
+/// where no rp has been met, the second where one has.
 const COMPLETE: [&[Element]; 2] = [
     &[
         Element::Tag(Tag::Ruby),

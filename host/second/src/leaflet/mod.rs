@@ -9,9 +9,9 @@
 //! rp         = <rp> { inner } </rp>
 //! ```
 //!
-//! A plain character and a base are of some list of request 04, an inner character is any, and none of them is an angle
-//! bracket or an ampersand. Where a text is refused, [`fault`] asks of its beginnings which still has an accepted
-//! text.
+//! A plain character and a base are of some list of request 04, an inner character is any, and none of them is an
+//! angle bracket or an ampersand. Where a text is refused, [`fault`] asks of its beginnings which still has an
+//! accepted text.
 
 pub mod by_hand;
 pub mod elements;
