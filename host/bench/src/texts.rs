@@ -78,8 +78,8 @@ const RUBY: [&str; 4] = [
 /// How many ruby elements an imported text has.
 const RUBY_ELEMENTS: usize = 20;
 
-/// A text to import of 256 records, with ruby elements evenly among them. It starts with one and ends without. The prose
-/// starts with this character, so that texts differ.
+/// A text to import of 256 records, with ruby elements evenly among them. It starts with one and ends without. The
+/// prose starts with this character, so that texts differ.
 pub fn imported(from: usize) -> String {
     let plain = LEAFLET_RECORDS as usize - 2 * RUBY_ELEMENTS;
     let mut text = String::new();

@@ -73,8 +73,8 @@ impl Plan {
     }
 }
 
-/// Times every cell once in each round, but for those whose calls take several slices, forwards and backwards in turn, so that no cell always runs in the caches that
-/// the same neighbour left.
+/// Times every cell once in each round, but for those whose calls take several slices; forwards and backwards in turn,
+/// so that no cell always runs in the caches that the same neighbour left.
 pub fn time(cells: &mut [Cell]) {
     let plans: Vec<Plan> = cells.iter_mut().map(Plan::of).collect();
     let mut order: Vec<usize> = (0..cells.len()).collect();

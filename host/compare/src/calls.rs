@@ -5,6 +5,9 @@ use std::fmt;
 use crate::layout::SLOT;
 use crate::random::Random;
 
+/// How many bytes of a text are told.
+const MOST_SHOWN: usize = 600;
+
 /// A record's words.
 pub type Words = [u32; 6];
 
@@ -125,9 +128,12 @@ impl fmt::Display for Call {
             }
             Call::Import { caller, slot, size, text } => {
                 write!(f, "import: caller {caller}, slot {slot}, size {size}, ")?;
-                match std::str::from_utf8(text) {
-                    Ok(text) => write!(f, "{} bytes: {text:?}", text.len()),
-                    Err(_) => write!(f, "{} bytes, no UTF-8: b\"{}\"", text.len(), text.escape_ascii()),
+                let shown = text.get(..MOST_SHOWN);
+                write!(f, "{}{} bytes: ", if shown.is_some() { "the first of " } else { "" }, text.len())?;
+                let shown = shown.unwrap_or(text);
+                match std::str::from_utf8(shown) {
+                    Ok(text) => write!(f, "{text:?}"),
+                    Err(_) => write!(f, "b\"{}\"", shown.escape_ascii()),
                 }
             }
             Call::Read { caller, slot } => write!(f, "read: caller {caller}, slot {slot}"),

@@ -2,7 +2,7 @@
 //!
 //! It is fed the arguments of each call and the sheet's length, and nothing of the sheet's words.
 //! Before the first accepted set-up it has no slots, while the sheet may hold any words: what it
-//! then answers to an edit or a read says nothing of the sheet, except for numbers 1 and 2.
+//! then answers to an edit, an import or a read says nothing of the sheet, except for numbers 1, 2 and 17.
 
 use crate::answer::{Answer, EditAnswer, ImportAnswer, Refusal};
 use crate::breaking::Setting;
