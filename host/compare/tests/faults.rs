@@ -157,6 +157,7 @@ fn imports_by_another_reader() {
         let failure = comparison(&sound, Scope::Brief).err();
         assert!(failure.is_none(), "{}", failure.map_or(String::new(), |failure| failure.to_string()));
     }
+    assert!(leaflet::compare(&sound, Scope::Full).is_ok());
 }
 
 #[test]
