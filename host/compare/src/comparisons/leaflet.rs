@@ -97,7 +97,8 @@ fn sequences(slot: &mut OneSlot, scope: Scope) -> Result<(), Failure> {
     Ok(())
 }
 
-/// Each code point outside ruby elements, and as a base; and all of them, many at once, in rt.
+/// Each code point outside ruby elements; most that have a class, and some others, as a base and in rt; and all, many
+/// at once, in rt.
 fn characters(slot: &mut OneSlot, scope: Scope) -> Result<(), Failure> {
     let characters: Vec<char> = code_points(scope).filter_map(char::from_u32).collect();
     for &character in &characters {
@@ -131,7 +132,7 @@ fn is_odd(character: &char) -> bool {
     code_point < 0x3400 || class_of(code_point).is_some_and(|class| class != 19) || code_point % 251 == 0
 }
 
-/// Leaflets with each byte changed, left out and doubled, and cut before it.
+/// Leaflets cut in two before each byte, and with it left out, made any other, or a tag put before it.
 fn changed(slot: &mut OneSlot, scope: Scope) -> Result<(), Failure> {
     let every_byte: Vec<u8> = (0..=0xFF).collect();
     for leaflet in [DOSE, AFTERCARE] {
