@@ -1,7 +1,9 @@
-//! Times the calls of the proved program and of the second one, beside filling and copying a slot.
+//! Times the calls of the proved program and of the second one, beside filling and copying a slot and going through
+//! a leaflet.
 //!
 //! `cargo run --profile timing -p bench` prints a table, `-- --json` the same as JSON. Every cell is
-//! the median over rounds; in a round each cell is timed once, so that a busy moment falls on all.
+//! the median over rounds; in a round each cell is timed once, so that a busy moment falls on all. Calls of several
+//! milliseconds are left out of some rounds.
 
 mod programs;
 mod report;

@@ -5,18 +5,20 @@ use std::ops::Range;
 type SetUp = fn(&mut [u32], &[u32], &[u32], &[u32]) -> u32;
 /// Plain arguments, as the proved program takes them: its time should not hold unpacking a struct.
 type Edit = fn(&mut [u32], u32, u32, u32, u32, &[u32]) -> u32;
+type Import = fn(&mut [u32], u32, u32, u32, &[u8]) -> u32;
 
 /// The columns of the two programs.
 pub const PROVED: &str = "proved";
 pub const SECOND: &str = "second";
 
-/// A program's calls on raw words. Edit and set-up say their number.
+/// A program's calls on raw words. Set-up, edit and import say their number.
 #[derive(Clone, Copy)]
 pub struct Program {
     /// The column's name.
     pub name: &'static str,
     pub set_up: SetUp,
     pub edit: Edit,
+    pub import: Import,
     pub read_number: fn(&[u32], u32, u32) -> u32,
     pub read: fn(&[u32], u32, u32) -> Range<usize>,
 }
@@ -26,6 +28,9 @@ const SECOND_PROGRAM: Program = Program {
     set_up: |sheet, clinics, measures, indents| second::set_up(sheet, clinics, measures, indents).number,
     edit: |sheet, caller, slot, place, deleted, inserted| {
         second::edit(sheet, second::Edit { caller, slot, place, deleted, inserted }).number
+    },
+    import: |sheet, caller, slot, size, text| {
+        second::import(sheet, second::Import { caller, slot, size, text }).number
     },
     read_number: second::read_number,
     read: second::read,
@@ -39,6 +44,9 @@ const PROVED_PROGRAM: Program = {
         set_up: |sheet, clinics, measures, indents| raw::set_up(sheet, clinics, measures, indents).number,
         edit: |sheet, caller, slot, place, deleted, inserted| {
             raw::edit(sheet, Clinic(caller), SlotNumber(slot), place, deleted, inserted).number
+        },
+        import: |sheet, caller, slot, size, text| {
+            raw::import(sheet, Clinic(caller), SlotNumber(slot), size, text).number
         },
         read_number: |sheet, caller, slot| raw::read_number(sheet, Clinic(caller), SlotNumber(slot)),
         read: |sheet, caller, slot| raw::read(sheet, Clinic(caller), SlotNumber(slot)),

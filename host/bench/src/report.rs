@@ -4,7 +4,10 @@ use std::fmt::Write;
 
 use crate::programs::{PROVED, SECOND};
 use crate::timing::Cell;
-use crate::work::{MEMCPY, MEMSET, ONE_OF_128, ONE_OF_256, ONE_OF_256_ON_64_SLOTS, PLAIN};
+use crate::work::{
+    EDIT_OF_IMPORT, FROM_UTF8, IMPORT, IMPORT_OF_1_MB, IMPORT_OF_500_KB, MEMCPY, MEMSET, ONE_OF_128,
+    ONE_OF_256, ONE_OF_256_ON_64_SLOTS, PLAIN,
+};
 
 const PROGRAMS: [&str; 2] = [PROVED, SECOND];
 
@@ -19,8 +22,17 @@ const COLUMNS: [(&str, &str); 7] = [
     ("s/memcpy", "second / memcpy"),
 ];
 
-/// Rows of which the first should not take much more than the second: more slots, twice the records.
-const GROWTHS: [(&str, &str); 2] = [(ONE_OF_256_ON_64_SLOTS, ONE_OF_256), (ONE_OF_256, ONE_OF_128)];
+/// Rows of which the first should not take much more than the second: more slots, an import and its edit; or twice as
+/// much, of twice the records or bytes.
+const GROWTHS: [(&str, &str); 4] = [
+    (ONE_OF_256_ON_64_SLOTS, ONE_OF_256),
+    (ONE_OF_256, ONE_OF_128),
+    (IMPORT, EDIT_OF_IMPORT),
+    (IMPORT_OF_1_MB, IMPORT_OF_500_KB),
+];
+
+/// What is not a call.
+const YARDSTICKS: [&str; 3] = [MEMSET, MEMCPY, FROM_UTF8];
 
 /// Medians by row and column.
 pub struct Report {
@@ -46,19 +58,19 @@ impl Report {
         cell.map(|(_, _, median)| *median)
     }
 
-    /// Filling and copying a slot.
-    fn yardsticks(&self) -> [Option<f64>; 2] {
-        [MEMSET, MEMCPY].map(|row| self.median(row, PLAIN))
+    /// Filling and copying a slot, and going through a leaflet.
+    fn yardsticks(&self) -> [Option<f64>; 3] {
+        YARDSTICKS.map(|row| self.median(row, PLAIN))
     }
 
     /// The rows of calls.
     fn calls(&self) -> impl Iterator<Item = &'static str> + '_ {
-        self.rows.iter().copied().filter(|row| ![MEMSET, MEMCPY].contains(row))
+        self.rows.iter().copied().filter(|row| !YARDSTICKS.contains(row))
     }
 
     /// A row of calls, by the columns.
     fn row(&self, row: &str) -> [Option<f64>; 7] {
-        let [memset, memcpy] = self.yardsticks();
+        let [memset, memcpy, _] = self.yardsticks();
         let [proved, second] = PROGRAMS.map(|column| self.median(row, column));
         [
             proved,
@@ -71,15 +83,16 @@ impl Report {
         ]
     }
 
-    /// How an edit of this program grows with slots and with records.
-    fn growths(&self, column: &str) -> [Option<f64>; 2] {
+    /// How an edit of this program grows with slots and with records, and an import over its edit and with bytes.
+    fn growths(&self, column: &str) -> [Option<f64>; 4] {
         GROWTHS.map(|(more, less)| ratio(self.median(more, column), self.median(less, column)))
     }
 
-    /// The rows, then how an edit grows with slots and records.
+    /// The rows, then how an edit and an import grow.
     pub fn table(&self) -> String {
-        let [memset, memcpy] = self.yardsticks().map(number);
-        let mut table = format!("{MEMSET}: {memset} ns, {MEMCPY}: {memcpy} ns\n\n");
+        let [memset, memcpy, from_utf8] = self.yardsticks().map(number);
+        let mut table =
+            format!("{MEMSET}: {memset} ns, {MEMCPY}: {memcpy} ns, {FROM_UTF8}: {from_utf8} ns\n\n");
         let heads = COLUMNS.map(|(head, _)| head.to_string());
         let _ = writeln!(table, "{:<28}{}", "ns per call, median", columns(heads));
         for row in self.calls() {
@@ -87,10 +100,14 @@ impl Report {
         }
         table.push('\n');
         for column in PROGRAMS {
-            let [slots, records] = self.growths(column).map(number);
+            let [slots, records, import, bytes] = self.growths(column).map(number);
             let _ = writeln!(
                 table,
                 "{column}: an edit on 64 slots takes {slots} times one on 1, of 256 records {records} times one of 128"
+            );
+            let _ = writeln!(
+                table,
+                "{column}: an import of 256 records takes {import} times its edit, of 1 MB {bytes} times one of 500 KB"
             );
         }
         table
@@ -99,7 +116,7 @@ impl Report {
     /// The same as an object of objects: nanoseconds of the yardsticks, then of the calls with their
     /// ratios, then the growths of each program. What was not timed is null.
     pub fn json(&self) -> String {
-        let [memset, memcpy] = self.yardsticks().map(json_number);
+        let [memset, memcpy, from_utf8] = self.yardsticks().map(json_number);
         let names = COLUMNS.map(|(_, name)| name);
         let calls = self.calls().map(|row| member(row, &one_line(&names, &self.row(row))));
         let names = GROWTHS.map(|(more, less)| format!("{more} / {less}"));
@@ -108,6 +125,7 @@ impl Report {
         let members = [
             member(MEMSET, &memset),
             member(MEMCPY, &memcpy),
+            member(FROM_UTF8, &from_utf8),
             member("calls", &object("  ", calls)),
             member("growths", &object("  ", growths)),
         ];

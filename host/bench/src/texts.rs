@@ -65,6 +65,53 @@ pub fn text(records: u32) -> Vec<u32> {
     repeated(plain.into_iter().chain(group), records)
 }
 
+/// What imported texts are made of outside their ruby elements.
+const PROSE: &str = "薬は食後に、クリームを5mgと「軟膏」など。10%の消毒液で少しずつ・徐々に、38℃まで。";
+
+/// The ruby elements of an imported text, each of two records.
+const RUBY: [&str; 4] = [
+    "<ruby>頓服<rt>とんぷく</rt></ruby>",
+    "<ruby>錠剤<rp>(</rp><rt>じょうざい</rt><rp>)</rp></ruby>",
+    "<ruby>嘔吐<rt>おうと</rt></ruby>",
+    "<ruby>出血<rp></rp><rt>しゅっけつ</rt><rp></rp></ruby>",
+];
+/// How many ruby elements an imported text has.
+const RUBY_ELEMENTS: usize = 20;
+
+/// A text to import of 256 records, with ruby elements evenly among them. It starts with one and ends without. The
+/// prose starts with this character, so that texts differ.
+pub fn imported(from: usize) -> String {
+    let plain = LEAFLET_RECORDS as usize - 2 * RUBY_ELEMENTS;
+    let mut text = String::new();
+    for (at, character) in PROSE.chars().cycle().skip(from).take(plain).enumerate() {
+        // The nth element stands where its share of the prose starts.
+        if let Some(nth) = (0..RUBY_ELEMENTS).find(|nth| nth * plain / RUBY_ELEMENTS == at) {
+            text += RUBY[nth % RUBY.len()];
+        }
+        text.push(character);
+    }
+    text
+}
+
+/// An imported text whose last character is one that no list has.
+pub fn with_last_unlisted() -> String {
+    let mut text = imported(0);
+    text.pop();
+    text + "（"
+}
+
+/// Prose of about so many bytes and no more.
+pub fn prose(bytes: usize) -> String {
+    PROSE
+        .chars()
+        .cycle()
+        .scan(0, |length, character| {
+            *length += character.len_utf8();
+            (*length <= bytes).then_some(character)
+        })
+        .collect()
+}
+
 /// A text of Western words, again and again. Full-width spaces stand between them: without these no line may end.
 pub fn latin(records: u32) -> Vec<u32> {
     let words = "Acetaminophen 500mg: take 1 or 2 tablets with water, not more than 8 a day (24h). \
@@ -152,6 +199,18 @@ mod tests {
                 assert!(second::in_list(record[1], record[0]), "{record:?}");
             }
         }
+    }
+
+    #[test]
+    fn imported_texts_are_of_256_records() {
+        for from in [0, 1] {
+            let words = second::leaflet::records(imported(from).as_bytes(), SIZE).expect("a leaflet");
+            let groups: BTreeSet<u32> = words.chunks(6).map(|record| record[4]).collect();
+            assert_eq!((words.len() / 6, groups.len()), (LEAFLET_RECORDS as usize, RUBY_ELEMENTS + 1));
+        }
+        let refused = with_last_unlisted();
+        assert_eq!(second::leaflet::records(refused.as_bytes(), SIZE), Err(refused.len() - '（'.len_utf8()));
+        assert!((500_000 - 3..=500_000).contains(&prose(500_000).len()));
     }
 
     #[test]

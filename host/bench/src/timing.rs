@@ -8,6 +8,9 @@ const ROUNDS: usize = 201;
 /// How long one cell runs in one round: short, so that neighbours meet the same moment.
 const SLICE: Duration = Duration::from_micros(400);
 
+/// The fewest rounds in which a cell is timed: one whose calls take long is left out of some.
+const FEWEST_ROUNDS: usize = 9;
+
 /// Something to time: a column of a row.
 pub struct Cell {
     pub row: &'static str,
@@ -51,14 +54,34 @@ impl Cell {
     }
 }
 
-/// Times every cell once in each round, forwards and backwards in turn, so that no cell always runs in the caches that
-/// the same neighbour left.
+/// How a cell is timed.
+struct Plan {
+    /// How many calls are made in a round.
+    calls: u32,
+    /// Of so many rounds it is timed in one, so that in all it takes a slice of each.
+    rounds: usize,
+}
+
+impl Plan {
+    fn of(cell: &mut Cell) -> Plan {
+        let calls = cell.calls_per_slice();
+        if calls > 1 {
+            return Plan { calls, rounds: 1 };
+        }
+        let slices = cell.run(1).as_nanos() / SLICE.as_nanos();
+        Plan { calls, rounds: (slices as usize).clamp(1, ROUNDS / FEWEST_ROUNDS) }
+    }
+}
+
+/// Times every cell once in each round, but for those whose calls take several slices; forwards and backwards in turn,
+/// so that no cell always runs in the caches that the same neighbour left.
 pub fn time(cells: &mut [Cell]) {
-    let calls: Vec<u32> = cells.iter_mut().map(Cell::calls_per_slice).collect();
+    let plans: Vec<Plan> = cells.iter_mut().map(Plan::of).collect();
     let mut order: Vec<usize> = (0..cells.len()).collect();
-    for _ in 0..ROUNDS {
-        for &i in &order {
-            let per_call = cells[i].run(calls[i]).as_nanos() as f64 / f64::from(calls[i]);
+    for round in 0..ROUNDS {
+        for &i in order.iter().filter(|&&i| round.is_multiple_of(plans[i].rounds)) {
+            let calls = plans[i].calls;
+            let per_call = cells[i].run(calls).as_nanos() as f64 / f64::from(calls);
             cells[i].nanoseconds.push(per_call);
         }
         order.reverse();

@@ -3,7 +3,10 @@
 use std::hint::black_box;
 
 use crate::programs::{self, Program};
-use crate::texts::{latin, leaflets, rare, record, text, Words, LEAFLETS, LEAFLET_RECORDS, SIZE};
+use crate::texts::{
+    imported, latin, leaflets, prose, rare, record, text, with_last_unlisted, Words, LEAFLETS,
+    LEAFLET_RECORDS, SIZE,
+};
 use crate::timing::Cell;
 
 const SLOT: usize = 2_824;
@@ -11,22 +14,27 @@ const CLINIC: u32 = 7;
 /// Twenty characters.
 const MEASURE: u32 = 20 * SIZE;
 
-/// The rows of the two yardsticks, and their column.
+/// The rows of the yardsticks, and their column.
 pub const MEMSET: &str = "memset of a slot";
 pub const MEMCPY: &str = "memcpy of a slot";
+pub const FROM_UTF8: &str = "from_utf8 of a leaflet";
 pub const PLAIN: &str = "plain";
 
 /// The rows that the report holds against each other.
 pub const ONE_OF_256: &str = "replace 1 of 256";
 pub const ONE_OF_128: &str = "replace 1 of 128";
 pub const ONE_OF_256_ON_64_SLOTS: &str = "replace 1 of 256, 64 slots";
+pub const IMPORT: &str = "import of 256";
+pub const EDIT_OF_IMPORT: &str = "the edit that it is";
+pub const IMPORT_OF_1_MB: &str = "import of 1 MB, refused";
+pub const IMPORT_OF_500_KB: &str = "import of 500 KB, refused";
 /// One text edited again and again is soon learnt by branch prediction: this row has too many for that.
 const ONE_OF_256_OVER_64_TEXTS: &str = "replace 1 of 256, 64 texts";
 
 /// Makes a row's cell for a program.
 type Row = fn(Program) -> Cell;
 
-const ROWS: [Row; 12] = [
+const ROWS: [Row; 17] = [
     |program| replace_all(program, "replace all 256"),
     |program| replace_one(program, ONE_OF_256, &text(256), [15, 19], 1),
     |program| replace_one(program, ONE_OF_128, &text(128), [15, 19], 1),
@@ -40,11 +48,16 @@ const ROWS: [Row; 12] = [
     |program| refused(program, "refused with 10", CLINIC, record(19, 4_000), 10),
     |program| read(program, "read"),
     |program| set_up(program, "set-up of 64 slots"),
+    |program| import(program, IMPORT),
+    |program| edit_of_import(program, EDIT_OF_IMPORT),
+    |program| import_refused(program, "import refused with 17", &with_last_unlisted(), 17),
+    |program| import_refused(program, IMPORT_OF_500_KB, &prose(500_000), 7),
+    |program| import_refused(program, IMPORT_OF_1_MB, &prose(1_000_000), 7),
 ];
 
-/// The two yardsticks, then each row with the programs side by side.
+/// The yardsticks, then each row with the programs side by side.
 pub fn cells() -> Vec<Cell> {
-    let mut cells = vec![memset(), memcpy()];
+    let mut cells = vec![memset(), memcpy(), from_utf8()];
     for row in ROWS {
         cells.extend(programs::all().into_iter().map(row));
     }
@@ -60,6 +73,16 @@ fn memcpy() -> Cell {
     let from = vec![1_u32; SLOT];
     let mut to = vec![0_u32; SLOT];
     Cell::new(MEMCPY, PLAIN, move || black_box(&mut to).copy_from_slice(black_box(&from)))
+}
+
+/// Whether the text that is imported is UTF-8, which is the least that can be asked of it.
+fn from_utf8() -> Cell {
+    let texts = imported_texts();
+    let mut turn = 0;
+    Cell::new(FROM_UTF8, PLAIN, move || {
+        turn ^= 1;
+        assert!(std::str::from_utf8(black_box(&texts[turn])).is_ok());
+    })
 }
 
 /// Replaces all 256 records by others.
@@ -136,6 +159,45 @@ fn set_up(program: Program, row: &'static str) -> Cell {
     })
 }
 
+/// Imports a text of 256 records in place of another.
+fn import(program: Program, row: &'static str) -> Cell {
+    let mut sheet = composed_sheet(program, &text(256), 1);
+    let texts = imported_texts();
+    let mut turn = 0;
+    Cell::new(row, program.name, move || {
+        turn ^= 1;
+        let number = (program.import)(black_box(&mut sheet), CLINIC, 0, SIZE, black_box(&texts[turn]));
+        assert_eq!(number, 0);
+    })
+}
+
+/// The edit that the import is, of records that are made already.
+fn edit_of_import(program: Program, row: &'static str) -> Cell {
+    let mut sheet = composed_sheet(program, &text(256), 1);
+    let texts = imported_texts().map(|text| second::leaflet::records(&text, SIZE).expect("a leaflet"));
+    let mut turn = 0;
+    Cell::new(row, program.name, move || {
+        turn ^= 1;
+        let inserted = black_box(&texts[turn]);
+        let number = (program.edit)(black_box(&mut sheet), CLINIC, 0, 0, LEAFLET_RECORDS, inserted);
+        assert_eq!(number, 0);
+    })
+}
+
+fn imported_texts() -> [Vec<u8>; 2] {
+    [0, 1].map(|from| imported(from).into_bytes())
+}
+
+/// An import over 256 records that is refused.
+fn import_refused(program: Program, row: &'static str, imported: &str, expected: u32) -> Cell {
+    let mut sheet = composed_sheet(program, &text(256), 1);
+    let imported = imported.as_bytes().to_vec();
+    Cell::new(row, program.name, move || {
+        let number = (program.import)(black_box(&mut sheet), CLINIC, 0, SIZE, black_box(&imported));
+        assert_eq!(number, expected);
+    })
+}
+
 /// A sheet whose last slot holds this text.
 fn composed_sheet(program: Program, text: &[u32], slots: u32) -> Vec<u32> {
     let mut sheet = fresh_sheet(program, slots);
@@ -165,7 +227,8 @@ mod tests {
     #[test]
     fn calls_are_answered_as_their_rows_expect() {
         for mut cell in cells() {
-            (0..2 * LEAFLETS).for_each(|_| (cell.call)());
+            let is_long = [IMPORT_OF_500_KB, IMPORT_OF_1_MB].contains(&cell.row);
+            (0..if is_long { 2 } else { 2 * LEAFLETS }).for_each(|_| (cell.call)());
         }
     }
 

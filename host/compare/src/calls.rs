@@ -5,6 +5,9 @@ use std::fmt;
 use crate::layout::SLOT;
 use crate::random::Random;
 
+/// How many bytes of a text are told.
+const MOST_SHOWN: usize = 600;
+
 /// A record's words.
 pub type Words = [u32; 6];
 
@@ -32,6 +35,17 @@ pub enum Call {
         deleted: u32,
         /// The words to insert.
         inserted: Vec<u32>,
+    },
+    /// Import.
+    Import {
+        /// The calling clinic.
+        caller: u32,
+        /// The slot's number.
+        slot: u32,
+        /// The size of every record.
+        size: u32,
+        /// The leaflet, which may be any bytes.
+        text: Vec<u8>,
     },
     /// Read with its companion.
     Read {
@@ -64,6 +78,11 @@ impl Call {
     /// The edit that puts these records in place of the `deleted` ones of slot 0.
     pub fn replace(caller: u32, deleted: u32, inserted: &[u32]) -> Call {
         Call::Edit { caller, slot: 0, place: 0, deleted, inserted: inserted.to_vec() }
+    }
+
+    /// The import of this text into slot 0.
+    pub fn import(caller: u32, size: u32, text: impl AsRef<[u8]>) -> Call {
+        Call::Import { caller, slot: 0, size, text: text.as_ref().to_vec() }
     }
 }
 
@@ -106,6 +125,16 @@ impl fmt::Display for Call {
             Call::Edit { caller, slot, place, deleted, inserted } => {
                 write!(f, "edit: caller {caller}, slot {slot}, place {place}, delete {deleted}, insert")?;
                 inserted.chunks(6).try_for_each(|record| write!(f, "\n    {record:?}"))
+            }
+            Call::Import { caller, slot, size, text } => {
+                write!(f, "import: caller {caller}, slot {slot}, size {size}, ")?;
+                let shown = text.get(..MOST_SHOWN);
+                write!(f, "{}{} bytes: ", if shown.is_some() { "the first of " } else { "" }, text.len())?;
+                let shown = shown.unwrap_or(text);
+                match std::str::from_utf8(shown) {
+                    Ok(text) => write!(f, "{text:?}"),
+                    Err(_) => write!(f, "b\"{}\"", shown.escape_ascii()),
+                }
             }
             Call::Read { caller, slot } => write!(f, "read: caller {caller}, slot {slot}"),
             Call::Damage { at, word } => write!(f, "damage: {} becomes {word}", crate::layout::name(*at)),

@@ -8,6 +8,7 @@ use second::lists::{self, BLOCKS, COMPATIBILITY};
 use crate::calls::{Call, Words};
 use crate::layout::{CLASSES, LARGEST_MEASURE, SLOT};
 use crate::random::Random;
+use crate::texts;
 
 /// Numbers at the limits of document 01 and of 32 bits.
 pub const EDGES: [u32; 31] = [
@@ -113,6 +114,15 @@ impl Style {
         let units = random.one_of(&[1, 2, 4, 8, 16, 30, 300]);
         let measure = size * units + random.below(size * units);
         measure.clamp(8, LARGEST_MEASURE)
+    }
+
+    /// One of its sizes; now and then one that no record may have.
+    pub fn import_size(&self, random: &mut Random) -> u32 {
+        match random.below(20) {
+            0 => random.one_of(&EDGES),
+            1 => random.one_of(self.sizes) + 4,
+            _ => random.one_of(self.sizes),
+        }
     }
 
     /// Mostly none, else anything below the measure.
@@ -235,6 +245,7 @@ impl Caller {
             3..=14 => self.read(book),
             15..=18 if self.damages => self.damage(),
             19..=49 if self.damaged.is_some() => self.read(book),
+            50..=64 => self.import(book),
             _ => self.edit(book),
         }
     }
@@ -297,6 +308,12 @@ impl Caller {
         }
         let inserted = self.inserted(256 - (count - deleted.min(count)));
         Call::Edit { caller, slot, place, deleted, inserted }
+    }
+
+    fn import(&mut self, book: &Book) -> Call {
+        let (caller, slot) = self.caller_and_slot(book);
+        let size = self.style.import_size(&mut self.random);
+        Call::Import { caller, slot, size, text: texts::any(&mut self.random) }
     }
 
     /// Words to insert where there is room for this many records.

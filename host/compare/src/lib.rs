@@ -18,6 +18,7 @@ pub mod random;
 pub mod run;
 pub mod shrink;
 pub mod tally;
+pub mod texts;
 
 /// How much of a comparison is run.
 #[derive(Debug, Clone, Copy, PartialEq, Eq)]

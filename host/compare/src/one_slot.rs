@@ -1,7 +1,7 @@
 //! One slot on each side, whose whole text is replaced again and again, or edited: the quick way to
 //! compare many paragraphs and edits. What the last text left behind is compared too.
 
-use second::{kept, Edit, EditAnswer};
+use second::{kept, Edit, EditAnswer, Import, ImportAnswer};
 
 use crate::calls::{Call, Case};
 use crate::failure::Failure;
@@ -75,6 +75,19 @@ impl<'a> OneSlot<'a> {
             Err(_) => return Err(self.failure(record_words(&self.before), edit_call(edit))),
         }
         Ok(answer)
+    }
+
+    /// Imports a text in place of all records. Its answer comes back.
+    pub fn import(&mut self, size: u32, text: &[u8]) -> Result<ImportAnswer, Failure> {
+        let import = Import { caller: CLINIC, slot: 0, size, text };
+        let tested = self.program.import(&mut self.tested, import);
+        let second = Second.import(&mut self.second, import);
+        self.tally.count(Outcome::Import(second.number));
+        self.compared(tested == second, || Call::import(CLINIC, size, text))?;
+        if second.number == 0 {
+            self.records = record_words(&self.second).to_vec();
+        }
+        Ok(tested)
     }
 
     /// The records that both programs hold.

@@ -2,7 +2,7 @@
 
 use std::ops::Range;
 
-use second::{Answer, Edit, EditAnswer, RubyPlace};
+use second::{Answer, Edit, EditAnswer, Import, ImportAnswer, RubyPlace};
 
 /// What the second program is called.
 pub const SECOND: &str = "the second program";
@@ -17,6 +17,9 @@ pub trait Program {
 
     /// Edit.
     fn edit(&self, sheet: &mut [u32], edit: Edit<'_>) -> EditAnswer;
+
+    /// Import.
+    fn import(&self, sheet: &mut [u32], import: Import<'_>) -> ImportAnswer;
 
     /// Read's number.
     fn read_number(&self, sheet: &[u32], caller: u32, slot: u32) -> u32;
@@ -49,6 +52,10 @@ impl Program for Second {
 
     fn edit(&self, sheet: &mut [u32], edit: Edit<'_>) -> EditAnswer {
         second::edit(sheet, edit)
+    }
+
+    fn import(&self, sheet: &mut [u32], import: Import<'_>) -> ImportAnswer {
+        second::import(sheet, import)
     }
 
     fn read_number(&self, sheet: &[u32], caller: u32, slot: u32) -> u32 {
@@ -92,6 +99,12 @@ impl Program for Proved {
         let (caller, slot) = (gelumbrio::Clinic(edit.caller), gelumbrio::SlotNumber(edit.slot));
         let answer = gelumbrio::raw::edit(sheet, caller, slot, edit.place, edit.deleted, edit.inserted);
         EditAnswer { number: answer.number, place: answer.place, redone: answer.redone }
+    }
+
+    fn import(&self, sheet: &mut [u32], import: Import<'_>) -> ImportAnswer {
+        let (caller, slot) = (gelumbrio::Clinic(import.caller), gelumbrio::SlotNumber(import.slot));
+        let answer = gelumbrio::raw::import(sheet, caller, slot, import.size, import.text);
+        ImportAnswer { number: answer.number, redone: answer.redone, place: answer.place }
     }
 
     fn read_number(&self, sheet: &[u32], caller: u32, slot: u32) -> u32 {

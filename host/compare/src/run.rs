@@ -4,7 +4,7 @@ use std::fmt::Debug;
 use std::ops::Range;
 
 use second::book::Book;
-use second::{kept, Edit};
+use second::{kept, Edit, Import};
 
 use crate::calls::{Call, Case};
 use crate::layout::{self, record_words, slot_words};
@@ -52,6 +52,9 @@ impl<'a> Run<'a> {
             &Call::Edit { caller, slot, place, deleted, ref inserted } => {
                 self.edit(Edit { caller, slot, place, deleted, inserted })?;
             }
+            &Call::Import { caller, slot, size, ref text } => {
+                self.import(Import { caller, slot, size, text })?;
+            }
             Call::Read { caller, slot } => self.read(*caller, *slot)?,
             Call::Damage { at, word } => self.damage(*at, *word),
         }
@@ -86,6 +89,29 @@ impl<'a> Run<'a> {
         self.tally.count(Outcome::Edit(second.number));
         match before {
             Some(before) if tested.number == 0 => self.keeps_other_lines(before, edit, tested.redone),
+            _ => Ok(()),
+        }
+    }
+
+    fn import(&mut self, import: Import<'_>) -> Result<(), String> {
+        let before = slot_words(&self.tested, import.slot).map(<[u32]>::to_vec);
+        let tested = self.program.import(&mut self.tested, import);
+        let second = Second.import(&mut self.second, import);
+        same_answer(tested, second, SECOND)?;
+        if self.book_holds {
+            let book = self.book.import(self.tested.len(), import);
+            same_answer(tested, book, "the book")?;
+        }
+        self.tally.count(Outcome::Import(second.number));
+        match before {
+            Some(before) if tested.number == 0 => {
+                // The edit that it is, by the records that it left.
+                let inserted =
+                    record_words(slot_words(&self.tested, import.slot).unwrap_or_default()).to_vec();
+                let Import { caller, slot, .. } = import;
+                let edit = Edit { caller, slot, place: 0, deleted: before[3], inserted: &inserted };
+                self.keeps_other_lines(before, edit, tested.redone)
+            }
             _ => Ok(()),
         }
     }

@@ -1,9 +1,11 @@
-//! Makes a failing case smaller by leaving out calls and records.
+//! Makes a failing case smaller by leaving out calls, records and bytes of texts.
 
 use crate::calls::{Call, Case};
 
-/// The most cases that are tried; shrinking is a help to the reader and need not be complete.
+/// The most cases that are tried; shrinking is a help to the reader and need not be complete. A case with a long text
+/// counts as several.
 const MOST_TRIES: u32 = 20_000;
+const LONG_TEXT: usize = 1_000;
 
 /// A case that still fails and from which nothing more can be left out one by one.
 pub fn smallest(case: &Case, fails: &dyn Fn(&Case) -> bool) -> Case {
@@ -13,6 +15,7 @@ pub fn smallest(case: &Case, fails: &dyn Fn(&Case) -> bool) -> Case {
         shrinker.drop_junk();
         shrinker.drop_calls();
         shrinker.drop_records();
+        shrinker.drop_bytes();
         shrinker.lower_numbers();
         if shrinker.best == before || shrinker.tries >= MOST_TRIES {
             return shrinker.best;
@@ -29,7 +32,7 @@ struct Shrinker<'a> {
 impl Shrinker<'_> {
     /// Keeps the case if it still fails.
     fn keep(&mut self, case: Case) -> bool {
-        self.tries += 1;
+        self.tries += 1 + long_texts(&case);
         let kept = self.tries < MOST_TRIES && (self.fails)(&case);
         if kept {
             self.best = case;
@@ -55,6 +58,19 @@ impl Shrinker<'_> {
                 |case, from, to| {
                     if let Some(Call::Edit { inserted, .. }) = case.calls.get_mut(i) {
                         inserted.drain(6 * from..6 * to);
+                    }
+                },
+            );
+        }
+    }
+
+    fn drop_bytes(&mut self) {
+        for i in 0..self.best.calls.len() {
+            self.drop_stretches(
+                |case| text(case, i).map_or(0, <[u8]>::len),
+                |case, from, to| {
+                    if let Some(Call::Import { text, .. }) = case.calls.get_mut(i) {
+                        text.drain(from..to);
                     }
                 },
             );
@@ -105,6 +121,19 @@ impl Shrinker<'_> {
 fn inserted(case: &Case, i: usize) -> Option<&[u32]> {
     match case.calls.get(i) {
         Some(Call::Edit { inserted, .. }) => Some(inserted),
+        _ => None,
+    }
+}
+
+/// How many long texts all the bytes of a case would make.
+fn long_texts(case: &Case) -> u32 {
+    let bytes: usize = (0..case.calls.len()).filter_map(|i| text(case, i)).map(<[u8]>::len).sum();
+    (bytes / LONG_TEXT) as u32
+}
+
+fn text(case: &Case, i: usize) -> Option<&[u8]> {
+    match case.calls.get(i) {
+        Some(Call::Import { text, .. }) => Some(text),
         _ => None,
     }
 }

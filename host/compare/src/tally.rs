@@ -39,6 +39,8 @@ pub enum Outcome {
     SetUp(u32),
     /// Edit, with this number.
     Edit(u32),
+    /// Import, with this number.
+    Import(u32),
     /// Read, with 0 and the words of lines.
     ReadLines,
     /// Read, with 0 and no words, as the slot has no lines.

@@ -1,12 +1,12 @@
 //! Every planted fault is found, and the case that shows it is made small.
 
 use compare::comparisons::{
-    digits, gaps, junk, lists, pairs, paragraphs, redone, sequences, short, Comparison, ALL,
+    digits, gaps, junk, leaflet, limits, lists, pairs, paragraphs, redone, sequences, short, Comparison, ALL,
 };
 use compare::failure::{Failure, NOT_SEEN_AGAIN};
 use compare::faults::{
-    wrong_lists, Fault, Misreading, ASKED_WRONGLY, CLASSES_AS, DIGITS, FIELDS, LOOKUPS, MISREADINGS,
-    NARROW_FIELDS, SINGLE, TABLES,
+    wrong_lists, Fault, Misimport, Misreading, ASKED_WRONGLY, CLASSES_AS, DIGITS, FIELDS, IMPORTED_WRONGLY,
+    LOOKUPS, MISIMPORTS, MISREADINGS, NARROW_FIELDS, SINGLE, TABLES,
 };
 use compare::generate::plain;
 use compare::layout::{CLASSES, LINES};
@@ -134,6 +134,30 @@ fn lists_asked_wrongly() {
 #[test]
 fn lists_asked_wrongly_in_sequences_and_junk() {
     each_is_found(&ASKED_WRONGLY.map(Fault::Listed), &[sequences::compare, junk::compare], 8);
+}
+
+#[test]
+fn misimports() {
+    each_is_found(&MISIMPORTS.map(Fault::Imported), &[leaflet::compare, limits::compare], 3);
+}
+
+/// Those of the call, and not of how a text is read, show among all other calls too.
+#[test]
+fn misimports_in_sequences_and_junk() {
+    let faults = IMPORTED_WRONGLY.map(Fault::Imported);
+    each_is_found(&faults, &[sequences::compare], 8);
+    each_is_found(&faults, &[junk::compare], 8);
+}
+
+/// A reader of another shape reads every text as the second program does.
+#[test]
+fn imports_by_another_reader() {
+    let sound = Fault::Imported(Misimport::Sound);
+    for comparison in ALL {
+        let failure = comparison(&sound, Scope::Brief).err();
+        assert!(failure.is_none(), "{}", failure.map_or(String::new(), |failure| failure.to_string()));
+    }
+    assert!(leaflet::compare(&sound, Scope::Full).is_ok());
 }
 
 #[test]

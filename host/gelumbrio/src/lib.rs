@@ -23,6 +23,18 @@
 //! # Ok::<(), Refusal>(())
 //! ```
 //!
+//! A leaflet from the web, with ruby, is imported as it is:
+//!
+//! ```
+//! # use gelumbrio::{Clinic, Refusal, Sheet, SlotNumber};
+//! # let mut sheet = Sheet::new(1)?;
+//! # sheet.set_up(&[Clinic(7)], &[440], &[0])?;
+//! let text = "<ruby>頓服<rt>とんぷく</rt></ruby>は、1日3回まで。";
+//! let imported = sheet.import(Clinic(7), SlotNumber(0), 80, text)?;
+//! assert_eq!(imported.lines, 2);
+//! # Ok::<(), Refusal>(())
+//! ```
+//!
 //! A clinic and a slot number are different kinds of number. This compiles:
 //!
 //! ```
@@ -39,10 +51,12 @@
 //! let _ = sheet.edit(SlotNumber(0), Clinic(1), 0, 0, &[]);
 //! ```
 
+mod leaflet;
 pub mod raw;
 mod refusal;
 mod sheet;
 
+pub use leaflet::{Excerpt, Found, LeafletFault};
 pub use raw::{Clinic, SlotNumber};
 pub use refusal::Refusal;
 pub use sheet::{

@@ -39,6 +39,19 @@ pub struct EditAnswer {
     pub redone: u32,
 }
 
+/// The answer of import.
+#[repr(C)]
+#[derive(Debug, Clone, Copy, PartialEq, Eq)]
+pub struct ImportAnswer {
+    /// 0, or the refusal's number.
+    pub number: u32,
+    /// How many lines are composed anew; 0 where the import is refused.
+    pub redone: u32,
+    /// The line count where the number is 0, a place in bytes of the text where it is 17, otherwise the refusal's
+    /// place.
+    pub place: usize,
+}
+
 /// The answer of ruby place.
 #[repr(C)]
 #[derive(Debug, Clone, Copy, PartialEq, Eq)]
@@ -78,6 +91,16 @@ extern "C" {
         inserted: *const u32,
         inserted_length: usize,
     ) -> EditAnswer;
+
+    fn gelumbrio_import(
+        sheet: *mut u32,
+        sheet_length: usize,
+        caller: Clinic,
+        slot: SlotNumber,
+        size: u32,
+        text: *const u8,
+        text_length: usize,
+    ) -> ImportAnswer;
 
     fn gelumbrio_read_number(sheet: *const u32, sheet_length: usize, caller: Clinic, slot: SlotNumber)
         -> u32;
@@ -131,6 +154,15 @@ pub fn edit(
             inserted.as_ptr(),
             inserted.len(),
         )
+    }
+}
+
+/// Import: reads a leaflet in UTF-8, puts its records in place of the slot's and composes the slot.
+pub fn import(sheet: &mut [u32], caller: Clinic, slot: SlotNumber, size: u32, text: &[u8]) -> ImportAnswer {
+    // SAFETY: both pointers and lengths are of live slices, and `sheet`, being borrowed mutably,
+    // does not overlap `text`. The library is proved to stay inside them and keeps no pointer.
+    unsafe {
+        gelumbrio_import(sheet.as_mut_ptr(), sheet.len(), caller, slot, size, text.as_ptr(), text.len())
     }
 }
 

@@ -1,8 +1,10 @@
 //! Why a call is refused (document 01, "Refusal numbers, in the order they are checked", and document 02,
-//! request 04).
+//! requests 04 and 05).
 
 use std::error::Error;
 use std::fmt;
+
+use crate::leaflet::LeafletFault;
 
 /// A refusal, with its place where the table names one. A refused call changes no word.
 #[derive(Debug, Clone, Copy, PartialEq, Eq, Hash)]
@@ -60,6 +62,10 @@ pub enum Refusal {
         /// The slot it was meant for.
         slot: u32,
     },
+    /// 17, which comes before all others: the text of an import is no leaflet.
+    ///
+    /// It says where the first fault is and what stands there.
+    Leaflet(LeafletFault),
     /// A number that this version of the crate does not know.
     Unknown {
         /// The number.
@@ -105,6 +111,7 @@ impl Refusal {
             Refusal::NoBreaking { .. } => 10,
             Refusal::Limits { .. } => 11,
             Refusal::NotListed { .. } => 12,
+            Refusal::Leaflet(_) => 17,
             Refusal::Unknown { number, .. } => number,
         }
     }
@@ -153,6 +160,7 @@ impl fmt::Display for Refusal {
             Refusal::Limits { slot } => {
                 write!(f, "the clinic, measure or indent for slot {slot} is out of limits")
             }
+            Refusal::Leaflet(fault) => fault.fmt(f),
             Refusal::Unknown { number, place } => write!(f, "refused with number {number}, place {place}"),
         }
     }

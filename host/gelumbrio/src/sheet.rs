@@ -1,5 +1,6 @@
 //! A sheet that owns its words (document 01, "The sheet").
 
+use crate::leaflet::LeafletFault;
 use crate::raw::{self, Clinic, SlotNumber};
 use crate::refusal::Refusal;
 
@@ -24,7 +25,7 @@ pub struct Sheet {
     words: Vec<u32>,
 }
 
-/// What an accepted edit did to the lines of its slot.
+/// What an accepted edit or import did to the lines of its slot.
 ///
 /// New lines before the redone ones are as they were, with the places of their records. Those after them
 /// are old lines, moved only by the change in record and line numbers.
@@ -121,6 +122,62 @@ impl Sheet {
     ) -> Result<Edited, Refusal> {
         let answer = raw::edit(&mut self.words, caller, slot, place, deleted, inserted);
         let lines = accepted(answer.number, answer.place)?;
+        Ok(Edited { lines, redone: answer.redone })
+    }
+
+    /// Reads a leaflet, puts its records in place of all that the slot holds and composes the slot. Says how many
+    /// lines the slot has, and how many were redone.
+    ///
+    /// A leaflet is UTF-8 text with ruby elements: a base, then `<rt>` with the ruby over it, which may have an `<rp>`
+    /// on each side. Every character outside `<rt>` and `<rp>` must have a class ([`class_of`](crate::class_of)). All
+    /// records have this size; those of brackets, points, hyphens and Western characters are half as wide.
+    ///
+    /// ```
+    /// use gelumbrio::{Clinic, Sheet, SlotNumber};
+    ///
+    /// let mut sheet = Sheet::new(1)?;
+    /// sheet.set_up(&[Clinic(7)], &[440], &[0])?;
+    /// let text = "<ruby>頓服<rp>(</rp><rt>とんぷく</rt><rp>)</rp></ruby>を1錠。";
+    /// let imported = sheet.import(Clinic(7), SlotNumber(0), 80, text)?;
+    /// assert_eq!((imported.lines, imported.redone), (1, 1));
+    ///
+    /// let line = &sheet.lines(Clinic(7), SlotNumber(0))?[0];
+    /// assert_eq!((line.xs.as_slice(), line.end_x), (&[0, 80, 160, 260, 320, 400][..], 440));
+    /// # Ok::<(), gelumbrio::Refusal>(())
+    /// ```
+    ///
+    /// A text that is no leaflet is refused, and the refusal says where and why:
+    ///
+    /// ```
+    /// use gelumbrio::{Clinic, Refusal, Sheet, SlotNumber};
+    ///
+    /// let mut sheet = Sheet::new(1)?;
+    /// sheet.set_up(&[Clinic(7)], &[400], &[0])?;
+    /// let refusal = sheet.import(Clinic(7), SlotNumber(0), 80, "1日3回（毎食後）").unwrap_err();
+    /// assert_eq!(refusal.number(), 17);
+    /// assert_eq!(
+    ///     refusal.to_string(),
+    ///     "line 1, column 5 of the leaflet (byte 8): '（' (U+FF08) may not stand here, as it is in no published list"
+    /// );
+    /// # Ok::<(), Refusal>(())
+    /// ```
+    ///
+    /// All other refusals are those of [`edit`](Sheet::edit). Records are counted in the characters outside `<rt>` and
+    /// `<rp>`.
+    pub fn import(
+        &mut self,
+        caller: Clinic,
+        slot: SlotNumber,
+        size: u32,
+        text: impl AsRef<[u8]>,
+    ) -> Result<Edited, Refusal> {
+        let text = text.as_ref();
+        let answer = raw::import(&mut self.words, caller, slot, size, text);
+        if answer.number == 17 {
+            return Err(Refusal::Leaflet(LeafletFault::at(text, answer.place)));
+        }
+        // All other places are an edit's, which are words.
+        let lines = accepted(answer.number, answer.place as u32)?;
         Ok(Edited { lines, redone: answer.redone })
     }
 

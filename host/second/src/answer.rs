@@ -21,6 +21,30 @@ pub struct EditAnswer {
     pub redone: u32,
 }
 
+/// The answer of import (document 02, request 05): 17 and where the text has its first fault, otherwise its edit's.
+#[derive(Debug, Clone, Copy, PartialEq, Eq)]
+pub struct ImportAnswer {
+    /// 0, or the refusal's number.
+    pub number: u32,
+    /// The number of lines composed anew; 0 where the import is refused.
+    pub redone: u32,
+    /// The line count where the number is 0, a place in bytes where it is 17, otherwise the edit's place.
+    pub place: usize,
+}
+
+impl ImportAnswer {
+    /// 17: the text has its first fault at this byte.
+    pub fn text_fault(at: usize) -> ImportAnswer {
+        ImportAnswer { number: 17, redone: 0, place: at }
+    }
+}
+
+impl From<EditAnswer> for ImportAnswer {
+    fn from(edit: EditAnswer) -> ImportAnswer {
+        ImportAnswer { number: edit.number, redone: edit.redone, place: edit.place as usize }
+    }
+}
+
 /// What an accepted edit tells.
 #[derive(Debug, Clone, Copy, PartialEq, Eq)]
 pub struct Edited {

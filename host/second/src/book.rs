@@ -2,11 +2,12 @@
 //!
 //! It is fed the arguments of each call and the sheet's length, and nothing of the sheet's words.
 //! Before the first accepted set-up it has no slots, while the sheet may hold any words: what it
-//! then answers to an edit or a read says nothing of the sheet, except for numbers 1 and 2.
+//! then answers to an edit, an import or a read says nothing of the sheet, except for numbers 1, 2 and 17.
 
-use crate::answer::{Answer, EditAnswer, Refusal};
+use crate::answer::{Answer, EditAnswer, ImportAnswer, Refusal};
 use crate::breaking::Setting;
 use crate::compose::{break_into_lines, compose};
+use crate::import::Import;
 use crate::records::{spliced, Record};
 use crate::sheet::{check_caller, check_set_up, edited, line_words, slot_count, slot_words, Edit};
 
@@ -87,6 +88,12 @@ impl Book {
             Ok(edited(&old_lines, &composition, &edit))
         });
         EditAnswer::from(outcome)
+    }
+
+    /// Import, which is its edit (document 02, request 05): it deletes all the records that the book has of the slot.
+    pub fn import(&mut self, sheet_length: usize, import: Import) -> ImportAnswer {
+        let count = self.record_count(import.slot).unwrap_or(0);
+        import.by_edit(count as u32, |edit| self.edit(sheet_length, edit))
     }
 
     /// Read and its companion, which together are one read.

@@ -16,6 +16,8 @@
 //! | [`compose`] | the lines and places of a whole paragraph |
 //! | [`redone`] | how many lines an edit composes anew: document 02, request 03 |
 //! | [`sheet`] | "The sheet", its layout and its calls |
+//! | [`leaflet`] | which texts are leaflets, and their records: document 02, request 05 |
+//! | [`import`](mod@import) | a leaflet's records in place of a slot's: document 02, request 05 |
 //! | [`book`] | "The book of demand 3" |
 //! | [`by_hand`] | "Composed by hand", C1 to C13, and the requests' cases, to test a program with |
 //! | [`kept`] | what request 03 promises of the other lines, to test a program with |
@@ -32,7 +34,9 @@ pub mod book;
 pub mod breaking;
 pub mod by_hand;
 pub mod compose;
+pub mod import;
 pub mod kept;
+pub mod leaflet;
 pub mod lists;
 pub mod records;
 pub mod redone;
@@ -40,7 +44,8 @@ pub mod sheet;
 pub mod spacing;
 pub mod units;
 
-pub use answer::{Answer, EditAnswer, RubyPlace};
+pub use answer::{Answer, EditAnswer, ImportAnswer, RubyPlace};
+pub use import::{import, Import};
 pub use lists::{class_of, in_list};
 pub use sheet::{edit, read, read_number, set_up, slot_words, Edit};
 pub use units::ruby_place;

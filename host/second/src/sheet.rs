@@ -67,6 +67,12 @@ impl Edit<'_> {
     }
 }
 
+/// How many records a slot says it holds, if the sheet has that slot.
+pub fn record_count(sheet: &[u32], slot: u32) -> Option<u32> {
+    let (slots, _) = sheet.as_chunks::<SLOT_WORDS>();
+    slots.get(slot as usize).map(|slot| Head::of(slot).record_count)
+}
+
 /// Set-up: gives each slot its clinic, measure and indent and empties it.
 pub fn set_up(sheet: &mut [u32], clinics: &[u32], measures: &[u32], indents: &[u32]) -> Answer {
     let outcome = check_set_up(sheet.len(), clinics, measures, indents);

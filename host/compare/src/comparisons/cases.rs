@@ -2,11 +2,12 @@
 //! numbers on the paper and beside the second program.
 
 use second::by_hand::{self, EDITS, PAPERS, RUBY};
-use second::Edit;
+use second::leaflet::by_hand::{all_refused, ACCEPTED, SIZE};
+use second::{Edit, ImportAnswer};
 
 use crate::calls::{Call, Case};
 use crate::failure::Failure;
-use crate::layout::SLOT;
+use crate::layout::{record_words, SLOT};
 use crate::one_slot::OneSlot;
 use crate::program::Program;
 use crate::run::{run, same_answer, same_words};
@@ -38,6 +39,7 @@ pub fn compare(program: &dyn Program, _scope: Scope) -> Result<Tally, Failure> {
     for case in EDITS {
         tally.add(&edit(program, &case)?);
     }
+    tally.add(&imports(program)?);
     for (name, base_advance, expected) in RUBY {
         let offsets = [0, 1, 2].map(|k| program.ruby_place(base_advance, 3, 80, k).offset);
         if offsets != expected {
@@ -56,6 +58,29 @@ fn edit(program: &dyn Program, case: &by_hand::EditCase) -> Result<Tally, Failur
     let answer = slot.edit(case.place, case.deleted, &case.inserted())?;
     same_answer(answer, case.expected(), PAPER)
         .map_err(|difference| paper_failure(program, "document 02, request 03", case.name, difference))?;
+    Ok(slot.tally)
+}
+
+/// The texts of request 05, beside the second program and as on the paper. All fit on one line.
+fn imports(program: &dyn Program) -> Result<Tally, Failure> {
+    let mut slot = OneSlot::new(TEST, None, program);
+    slot.set_up(10_000, 0)?;
+    let failed = |name: &str, difference| paper_failure(program, "document 02, request 05", name, difference);
+    for case in ACCEPTED {
+        let answer = slot.import(SIZE, case.text.as_bytes())?;
+        let lines = u32::from(!case.text.is_empty());
+        let expected = ImportAnswer { number: 0, redone: lines, place: lines as usize };
+        same_answer(answer, expected, PAPER).map_err(|difference| failed(case.name, difference))?;
+        // Both programs hold these words.
+        if record_words(slot.words()) != case.records() {
+            return Err(failed(case.name, "the records are not those of the paper".to_string()));
+        }
+    }
+    for case in all_refused() {
+        let answer = slot.import(SIZE, case.text)?;
+        same_answer(answer, ImportAnswer::text_fault(case.place), PAPER)
+            .map_err(|difference| failed(case.name, difference))?;
+    }
     Ok(slot.tally)
 }
 

@@ -8,6 +8,7 @@ use crate::program::Program;
 use crate::random::{seeds, Random};
 use crate::run::run;
 use crate::tally::Tally;
+use crate::texts;
 use crate::Scope;
 
 const TEST: &str = "junk";
@@ -85,6 +86,10 @@ fn damage(random: &mut Random, text: &[u32]) -> (usize, u32) {
 fn last_call(random: &mut Random, caller: u32, slot: u32, style: &Style) -> Call {
     let caller = if random.once_in(8) { random.one_of(&EDGES) } else { caller };
     let slot = if random.once_in(8) { random.one_of(&EDGES) } else { slot };
+    if random.once_in(3) {
+        let size = style.import_size(random);
+        return Call::Import { caller, slot, size, text: texts::any(random) };
+    }
     let count = random.below(4);
     let mut inserted = style.paragraph(random, count);
     if random.once_in(4) {

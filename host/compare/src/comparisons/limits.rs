@@ -7,6 +7,7 @@ use crate::layout::{CLASSES, RECORDS, SLOT};
 use crate::program::Program;
 use crate::run::run;
 use crate::tally::Tally;
+use crate::texts::DOSE;
 use crate::Scope;
 
 const TEST: &str = "limits";
@@ -47,6 +48,9 @@ fn wrong_length(length: usize) -> Case {
     let mut calls = vec![set_up(slots, 800), set_up(slots + 1, 800), set_up(0, 800)];
     for slot in [0, slots.saturating_sub(1) as u32, slots as u32, 64, BIG] {
         calls.push(Call::Edit { caller: 7, slot, place: 0, deleted: 0, inserted: plain(19, 80).to_vec() });
+        for text in [DOSE, "<"] {
+            calls.push(Call::Import { caller: 7, slot, size: 80, text: text.into() });
+        }
         calls.push(Call::Read { caller: 7, slot });
         calls.push(Call::Read { caller: 0, slot });
         calls.push(Call::Read { caller: BIG, slot });
@@ -71,7 +75,8 @@ fn set_up_numbers() -> Case {
     Case { length: 3 * SLOT, junk: None, calls }
 }
 
-/// Every pair of edges as place and deletion, and as caller and slot, each on nine records.
+/// Every pair of edges as place and deletion, and as caller and slot, and every edge as an import's size, each on nine
+/// records.
 fn edit_numbers() -> Vec<Case> {
     let on_nine_records = |calls: &[Call]| {
         let nine = [set_up(2, 800), Call::replace(7, 0, &plain(19, 80).repeat(9))];
@@ -86,7 +91,13 @@ fn edit_numbers() -> Vec<Case> {
                 Call::Edit { caller: edge, slot: other, place: 0, deleted: 0, inserted: vec![] },
                 Call::Edit { caller: 7, slot: 0, place: edge, deleted: other, inserted: vec![] },
             ]));
+            // A fault in the text comes before all that is wrong with caller and slot.
+            cases.push(on_nine_records(&["<", "あ"].map(|text| {
+                let text = text.into();
+                Call::Import { caller: edge, slot: other, size: 80, text }
+            })));
         }
+        cases.push(on_nine_records(&["<", "", DOSE].map(|text| Call::import(7, edge, text))));
     }
     cases
 }
@@ -213,7 +224,7 @@ fn measures() -> Vec<Case> {
     settings.chain(large).map(in_measure).collect()
 }
 
-/// Every edge in every word of the head of a slot with a text, read and edited so.
+/// Every edge in every word of the head of a slot with a text, read, edited and imported into so.
 fn damaged_heads() -> Vec<Case> {
     let with_word = |at, word| {
         let calls = vec![
@@ -221,7 +232,10 @@ fn damaged_heads() -> Vec<Case> {
             Call::replace(7, 0, &plain(19, 80).repeat(20)),
             Call::Damage { at, word },
             Call::Read { caller: 7, slot: 0 },
+            Call::import(7, 80, "あ<"),
             Call::replace(7, 0, &plain(19, 80)),
+            Call::Damage { at, word },
+            Call::import(7, 80, DOSE),
         ];
         Case { length: SLOT, junk: None, calls }
     };

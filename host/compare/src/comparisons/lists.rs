@@ -67,7 +67,7 @@ pub fn lookups(program: &dyn Program, scope: Scope) -> Result<Tally, Failure> {
 
 /// In full all code points, surrogates too, and as many numbers past them; in brief those below the first ideograph,
 /// those about the ends of its blocks, and the forms that are wide or for compatibility.
-fn code_points(scope: Scope) -> Box<dyn Iterator<Item = u32>> {
+pub fn code_points(scope: Scope) -> Box<dyn Iterator<Item = u32>> {
     let past = [0x20_3001, 0x7FFF_FFFF, 0x8000_3001, u32::MAX - 1, u32::MAX];
     if scope == Scope::Full {
         return Box::new((0..=0x11_FFFF).chain(past));

@@ -4,6 +4,7 @@ pub mod cases;
 pub mod digits;
 pub mod gaps;
 pub mod junk;
+pub mod leaflet;
 pub mod limits;
 pub mod lists;
 pub mod pairs;
@@ -22,7 +23,7 @@ use crate::Scope;
 pub type Comparison = fn(&dyn Program, Scope) -> Result<Tally, Failure>;
 
 /// All comparisons, the quickest first.
-pub const ALL: [Comparison; 12] = [
+pub const ALL: [Comparison; 13] = [
     cases::compare,
     ruby::compare,
     limits::compare,
@@ -35,4 +36,5 @@ pub const ALL: [Comparison; 12] = [
     redone::compare,
     sequences::compare,
     short::compare,
+    leaflet::compare,
 ];

@@ -5,16 +5,20 @@
 
 mod edits;
 mod gaps;
+mod imports;
 mod lists;
+mod reader;
 mod redone;
 mod slots;
 
 use std::ops::Range;
 
-use second::{Answer, Edit, EditAnswer, RubyPlace};
+use second::sheet::record_count;
+use second::{Answer, Edit, EditAnswer, Import, ImportAnswer, RubyPlace};
 
 use crate::layout::{slot_words, LINES, SLOT};
 use crate::program::{Program, Second, SECOND};
+pub use imports::{Misimport, IMPORTED_WRONGLY, MISIMPORTS};
 pub use lists::{wrong_lists, Mislisting, ASKED_WRONGLY, LOOKUPS};
 pub use redone::{Misreading, MISREADINGS};
 use slots::{keep_all_but_heads, keep_texts, whole_slots};
@@ -130,9 +134,11 @@ pub enum Fault {
     Redone(Misreading),
     /// The published lists are wrong, or are asked wrongly.
     Listed(Mislisting),
+    /// A text is misread, or imported wrongly.
+    Imported(Misimport),
 }
 
-/// Every fault but those of digits, classes, gaps, redone lines and lists.
+/// Every fault but those of digits, classes, gaps, redone lines, lists and imports.
 pub const SINGLE: [Fault; 40] = [
     Fault::NaturalBreaks,
     Fault::DamageBeforeCaller,
@@ -247,6 +253,17 @@ impl Program for Fault {
 
     fn edit(&self, sheet: &mut [u32], edit: Edit<'_>) -> EditAnswer {
         edits::with_fault(*self, sheet, edit)
+    }
+
+    /// An edit's fault shows in an import too, which is its edit.
+    fn import(&self, sheet: &mut [u32], import: Import<'_>) -> ImportAnswer {
+        match self {
+            Fault::Imported(misimport) => misimport.import(sheet, import),
+            _ => {
+                let count = record_count(sheet, import.slot).unwrap_or(0);
+                import.by_edit(count, |its_edit| self.edit(sheet, its_edit))
+            }
+        }
     }
 
     fn read_number(&self, sheet: &[u32], caller: u32, slot: u32) -> u32 {
