@@ -5,6 +5,7 @@ pub mod Lengths
 pub mod Entry
 pub mod Parts
 pub mod OnSlot
+pub mod Faulted
 pub mod Alike
 pub mod Reading
 pub mod ReadOnSlot
