@@ -15,6 +15,7 @@ pub mod Encode
 pub mod AnswerFour
 pub mod Slots
 pub mod SlotChanges
+pub mod Replacing
 pub mod SlotCalls
 pub mod Steps
 pub mod Stays
