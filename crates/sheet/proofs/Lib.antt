@@ -16,6 +16,7 @@ pub mod AnswerFour
 pub mod Slots
 pub mod SlotChanges
 pub mod Replacing
+pub mod ReadTexts
 pub mod SlotCalls
 pub mod Steps
 pub mod Stays

@@ -3,6 +3,7 @@ mod importing;
 mod setting;
 
 pub use crate::importing::ImportAnswer;
+pub use crate::importing::import;
 pub use crate::setting::set_up;
 pub use rules::RubyPlace;
 pub use rules::ruby_place;
