@@ -9,7 +9,8 @@ use Rattle.leaflet.specs.Items.{Item, char, tag, Tag}
 use Rattle.leaflet.specs.Decoding.{next}
 use Rattle.leaflet.specs.Spots.{tagNumber}
 use Rattle.leaflet.specs.Reader.{itemsFrom}
-use Rattle.leaflet.specs.Written.{letterRun, rtAhead, ifRt}
+use Rattle.leaflet.specs.Written.{letterRun, rtAhead}
+use Rattle.leaflet.proofs.TagTests.{is-rt, no-rt}
 use Rattle.leaflet.specs.Values.{tagOf, FoundAt}
 use Rattle.leaflet.specs.declared.spots.Tag.{Tag as TagValue}
 use Rattle.leaflet.specs.declared.items.Found.{Found}
@@ -59,22 +60,6 @@ module _ {s : List ℕ} {at : ℕ} where
 pub record Sought (s : List ℕ) (at i : ℕ) : Type 0 where
   pub inside : i ≤ length s
   pub same : rtAhead (itemsFrom (drop i s)) ≡ rtAhead (itemsFrom (drop at s))
-
-is-rt : {A : Type 0} (t : Tag) (a b : A) → tagNumber t ≡ 2 → ifRt t a b ≡ a
-is-rt Tag.ruby a b e = absurd (omega arith)
-is-rt Tag.ruby-end a b e = absurd (omega arith)
-is-rt Tag.rt a b e = refl
-is-rt Tag.rt-end a b e = absurd (omega arith)
-is-rt Tag.rp a b e = absurd (omega arith)
-is-rt Tag.rp-end a b e = absurd (omega arith)
-
-no-rt : {A : Type 0} (t : Tag) (a b : A) → (tagNumber t ≡ 2 → ⊥) → ifRt t a b ≡ b
-no-rt Tag.ruby a b e = refl
-no-rt Tag.ruby-end a b e = refl
-no-rt Tag.rt a b e = absurd (e refl)
-no-rt Tag.rt-end a b e = refl
-no-rt Tag.rp a b e = refl
-no-rt Tag.rp-end a b e = refl
 
 module _ {s : List ℕ} {at : ℕ} where
   pub sought-start : at ≤ length s → Sought s at at

@@ -25,3 +25,7 @@ pub mod Walked
 pub mod Marked
 pub mod Aheads
 pub mod Counts
+pub mod TagTests
+pub mod Advances
+pub mod Puts
+pub mod ReadLoop

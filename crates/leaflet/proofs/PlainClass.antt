@@ -11,17 +11,14 @@ use Rattle.leaflet.proofs.Facts.{tested}
 
 module _ (c : ℕ) where
   -- as a program finds it
-  pub plain-class : cond (text c) (classOf c) 0 ≡ cond (plain c) (classOf c) 0
+  pub plain-class : text c ≡ true → classOf c ≡ cond (plain c) (classOf c) 0
   unfolding plain listed
-  plain-class =
-      elim (tested (text c)) [
-        | inl e ↦
-            elim (tested (eqb (classOf c) 0)) [
-              | inl f ↦ rw (e, f) (eqb-true _ _ f)
-              | inr f ↦ rw (e, f)
-            ]
-        | inr e ↦ rw e
-      ]
+  plain-class e =
+      elim (tested (eqb (classOf c) 0)) [ inl f ↦ rw (e, f) (eqb-true _ _ f) | inr f ↦ rw (e, f) ]
+
+  pub plain-none : text c ≡ false → 0 ≡ cond (plain c) (classOf c) 0
+  unfolding plain
+  plain-none e = rw e
 
   -- it is 0 where the character may not stand
   pub plain-known : not (eqb (cond (plain c) (classOf c) 0) 0) ≡ plain c

@@ -94,6 +94,8 @@ fn filled(outcome: Outcome, i: usize) -> Reading
 pub fn read_leaflet(s: &[u8], size: u32, words: &mut [u32; 1542]) -> Reading
     ensures { λ r. ⌜ ReadAs (now (s .entry)) size (now (words .exit)) r ⌝ }
 {
+    // lent as a slice, so that the proof knows its length
+    let out = &mut words[..];
     let mut q = Spot::Outside;
     let mut at = 0;
     // groups begun, the ruby count of the last, words put
@@ -103,7 +105,7 @@ pub fn read_leaflet(s: &[u8], size: u32, words: &mut [u32; 1542]) -> Reading
     while at < s.len() {
         match item_at(s, at) {
             Found::Nothing => return Reading::Fault(at),
-            Found::Letter(c, width) => match put_letter(words, i, q, c, size, k, n) {
+            Found::Letter(c, width) => match put_letter(out, i, q, c, size, k, n) {
                 Put::Refused => return Reading::Fault(at),
                 Put::Full => return filled(fault_from(s, at, q), i),
                 Put::Next(j) => {

@@ -2,6 +2,7 @@
 ghost use mathlib.Core.Path.{_≡_};
 ghost use mathlib.Core.List.{[], _∷_};
 ghost use Prim.Native.Nat.{_+_, _≤_};
+ghost use lib.ListN.{length};
 ghost use lib.Seq.{sets};
 ghost use Rattle.leaflet.specs.Imported.{asWord, advanceOf};
 ghost use Rattle.leaflet.specs.Written.{inGroup};
@@ -43,15 +44,24 @@ fn advance_of(class: u32, size: u32) -> u32
     }
 }
 
-fn put_record(words: &mut [u32; 1542], i: usize, c: u32, class: u32, size: u32, g: u32, n: u32)
-    requires { ⌜ i + 6 ≤ 1542 ⌝ }
+fn put_record(
+    words: &mut [u32],
+    i: usize,
+    c: u32,
+    class: u32,
+    size: u32,
+    advance: u32,
+    g: u32,
+    n: u32,
+)
+    requires { ⌜ i + 6 ≤ length (now words) ⌝ }
     ensures { λ _. ⌜ now (words .exit)
-        ≡ sets (now (words .entry)) i (c ∷ class ∷ size ∷ advanceOf class size ∷ g ∷ n ∷ []) ⌝ }
+        ≡ sets (now (words .entry)) i (c ∷ class ∷ size ∷ advance ∷ g ∷ n ∷ []) ⌝ }
 {
     words[i] = c;
     words[i + 1] = class;
     words[i + 2] = size;
-    words[i + 3] = advance_of(class, size);
+    words[i + 3] = advance;
     words[i + 4] = g;
     words[i + 5] = n;
 }
@@ -76,7 +86,7 @@ fn passed(step: Step, i: usize) -> Put
 
 // Puts the record of a character at a spot, if it has one, after `k` groups, the last of `n` ruby characters.
 pub(crate) fn put_letter(
-    words: &mut [u32; 1542],
+    words: &mut [u32],
     i: usize,
     q: Spot,
     c: u32,
@@ -84,7 +94,7 @@ pub(crate) fn put_letter(
     k: usize,
     n: usize,
 ) -> Put
-    requires { ⌜ i ≤ 1542 ⌝ }
+    requires { ⌜ (length (now words) ≡ 1542) × (i ≤ 1542) ⌝ }
     ensures { λ r. ⌜ Putting (now (words .entry)) (now (words .exit)) i size (spotOf q) k n c r ⌝ }
 {
     if !wants_plain(q) {
@@ -97,6 +107,7 @@ pub(crate) fn put_letter(
     if 1542 - i < 6 {
         return Put::Full;
     }
-    put_record(words, i, c, class, size, in_group(q, k), in_group(q, n));
+    let advance = advance_of(class, size);
+    put_record(words, i, c, class, size, advance, in_group(q, k), in_group(q, n));
     Put::Next(i + 6)
 }

@@ -1,0 +1,196 @@
+-- `leaflet::reader::read_leaflet` meets its contract. Assumes nothing.
+use mathlib.Core.Path.{refl, sym, _∙_}
+use Prim.Native.Nat.{_-_}
+use native.Mathlib.Omega.{arith}
+use lib.ListN.{length}
+use borrow.Author.Needs.{needs}
+use Rattle.leaflet.specs.Values.{spotOf}
+use Rattle.leaflet.proofs.Aheads.{on-letter, on-markup}
+use Rattle.leaflet.proofs.ReadLoop.{Loop, loop-start, loop-letter, loop-tag, loop-nothing, loop-refused}
+use Rattle.leaflet.proofs.ReadLoop.{loop-astray, loop-open, loop-end, loop-full}
+use Rattle.leaflet.proofs.reader.read_leaflet.Statement.{statement}
+use Rattle.leaflet.proofs.reader.read_leaflet.Tie as tie
+
+abbrev Inv-loop : tie.InvT-loop
+Inv-loop s size out₀ q₀ at₀ k₀ n₀ i₀ out q at k n i = Loop s size out at (spotOf q) k n i
+
+abbrev μ-loop : tie.MeasureT-loop
+μ-loop s size out₀ q₀ at₀ k₀ n₀ i₀ out q at k n i = length s - at
+
+-- at an item: the loop's place, and what was found
+abbrev round : tie.After-item-at Inv-loop μ-loop → tie.At-loop Inv-loop μ-loop
+round c = c .before .before
+
+abbrev of-letter : tie.After-c Inv-loop μ-loop → tie.After-item-at Inv-loop μ-loop
+of-letter c = c .before .before
+
+abbrev of-tag : tie.After-t Inv-loop μ-loop → tie.After-item-at Inv-loop μ-loop
+of-tag c = c .before .before
+
+-- a character, and what was put of it
+abbrev letter : tie.After-put-letter Inv-loop μ-loop → tie.After-c Inv-loop μ-loop
+letter c = c .before .before .before
+
+abbrev put-at : tie.After-slice-known Inv-loop μ-loop → tie.After-put-letter Inv-loop μ-loop
+put-at c = c .before .before
+
+abbrev next-at : tie.After-past-letter Inv-loop μ-loop → tie.After-j Inv-loop μ-loop
+next-at c = c .before .before
+
+-- a tag, and where it leads
+abbrev stepped : tie.After-p Inv-loop μ-loop → tie.After-after-tag Inv-loop μ-loop
+stepped c = c .before .before
+
+abbrev tagged : tie.After-after-tag Inv-loop μ-loop → tie.After-t Inv-loop μ-loop
+tagged c = c .before .before
+
+abbrev led : tie.After-ruby-past Inv-loop μ-loop → tie.After-p Inv-loop μ-loop
+led c = c .before .before .before
+
+loop-holds : tie.Need-loop-holds Inv-loop μ-loop
+loop-holds c = loop-start (c .out .given .0 .1)
+
+returns : tie.Need-returns Inv-loop μ-loop
+returns c =
+    let d = c .before .before in
+    loop-nothing (round d .loop .inv) (d .item-at .ensures) (d .before .loop-test .taken) (c .enum-told .given .1)
+
+put-letter-requires : tie.Need-put-letter-requires Inv-loop μ-loop
+put-letter-requires c κs = let l = round (of-letter (c .before .before)) .loop .inv in (l .long, l .room)
+
+returns-2 : tie.Need-returns-2 Inv-loop μ-loop
+returns-2 c =
+    let p = put-at (c .before .before) in
+    let f = letter p in
+    let d = of-letter f in
+    loop-refused (round d .loop .inv) _ _ (d .item-at .ensures) (d .before .loop-test .taken) (f .c .given .1)
+    (p .put-letter .ensures) (c .enum-told2 .given .1)
+
+fault-from-requires : tie.Need-fault-from-requires Inv-loop μ-loop
+fault-from-requires c κs =
+    let d = of-letter (letter (put-at (c .before .before))) in round d .loop .inv .walked .inside
+
+returns-3 : tie.Need-returns-3 Inv-loop μ-loop
+returns-3 c =
+    let e = c .before .before in
+    let p = put-at (e .before .before) in
+    let d = of-letter (letter p) in
+    rw (c .filled .ensures)
+    (loop-full (round d .loop .inv) _ (c .before .fault-from .result) (p .put-letter .ensures)
+    (e .enum-told3 .given .1) (c .before .fault-from .ensures))
+
+add-at : tie.Need-add-at Inv-loop μ-loop
+add-at c =
+    let f = letter (put-at (next-at c .before .before)) in
+    let d = of-letter f in
+    let o = on-letter (d .item-at .ensures) _ _ (d .before .loop-test .taken) (f .c .given .1) in
+    omega arith
+
+loop-less : tie.Need-loop-less Inv-loop μ-loop
+loop-less c =
+    let f = letter (put-at (next-at c .before .before)) in
+    let d = of-letter f in
+    let o = on-letter (d .item-at .ensures) _ _ (d .before .loop-test .taken) (f .c .given .1) in
+    omega arith
+
+loop-again : tie.Need-loop-again Inv-loop μ-loop
+loop-again c =
+    let j = next-at c in
+    let p = put-at (j .before .before) in
+    let f = letter p in
+    let d = of-letter f in
+    loop-letter (round d .loop .inv) _ _ _ (c .past-letter .result) (d .item-at .ensures)
+    (d .before .loop-test .taken) (f .c .given .1) (c .past-letter .ensures) (p .put-letter .ensures) (j .j .given .1)
+
+returns-4 : tie.Need-returns-4 Inv-loop μ-loop
+returns-4 c =
+    let a = c .before .before in
+    let f = tagged a in
+    let d = of-tag f in
+    loop-astray (round d .loop .inv) _ _ (d .item-at .ensures) (d .before .loop-test .taken) (f .t .given .1)
+    (a .after-tag .ensures) (c .enum-told4 .given .1)
+
+add-at-2 : tie.Need-add-at-2 Inv-loop μ-loop
+add-at-2 c =
+    let f = tagged (stepped (c .before)) in
+    let d = of-tag f in
+    let o = on-markup (d .item-at .ensures) _ _ (d .before .loop-test .taken) (f .t .given .1) in
+    omega arith
+
+groups-past-requires : tie.Need-groups-past-requires Inv-loop μ-loop
+groups-past-requires c κs =
+    let f = tagged (stepped (c .before)) in
+    let d = of-tag f in
+    let o = on-markup (d .item-at .ensures) _ _ (d .before .loop-test .taken) (f .t .given .1) in
+    let l = round d .loop .inv in
+    omega (arith, l .begun)
+
+ruby-past-requires : tie.Need-ruby-past-requires Inv-loop μ-loop
+ruby-past-requires c κs =
+    let f = tagged (stepped (c .before .before)) in
+    let d = of-tag f in
+    let o = on-markup (d .item-at .ensures) _ _ (d .before .loop-test .taken) (f .t .given .1) in
+    omega arith
+
+loop-less-2 : tie.Need-loop-less-2 Inv-loop μ-loop
+loop-less-2 c =
+    let f = tagged (stepped (led c)) in
+    let d = of-tag f in
+    let o = on-markup (d .item-at .ensures) _ _ (d .before .loop-test .taken) (f .t .given .1) in
+    omega arith
+
+loop-again-2 : tie.Need-loop-again-2 Inv-loop μ-loop
+loop-again-2 c =
+    let p = led c in
+    let a = stepped p in
+    let f = tagged a in
+    let d = of-tag f in
+    loop-tag (round d .loop .inv) _ _ _ _ _ (d .item-at .ensures) (d .before .loop-test .taken) (f .t .given .1)
+    (a .after-tag .ensures) (p .p .given .1) (c .before .groups-past .ensures) (c .ruby-past .ensures)
+
+returns-5 : tie.Need-returns-5 Inv-loop μ-loop
+returns-5 c =
+    let e = c .before .before in
+    loop-end (e .before .loop .inv) (e .loop-test .left) (sym (c .before .is-outside .ensures) ∙ c .if1 .taken)
+
+returns-6 : tie.Need-returns-6 Inv-loop μ-loop
+returns-6 c =
+    let e = c .before .before in
+    loop-open (e .before .loop .inv) (e .loop-test .left) (sym (c .before .is-outside .ensures) ∙ c .if1 .left)
+
+pub read-leaflet-spec : {M : Type 1} → statement M
+read-leaflet-spec =
+    tie.close
+    (tie.spec
+    Inv-loop
+    μ-loop
+    loop-holds
+    (λ c κs. search needs)
+    (λ c. search needs)
+    returns
+    (λ c. search needs)
+    put-letter-requires
+    (λ c. search needs)
+    returns-2
+    (λ c. search needs)
+    fault-from-requires
+    (λ c κs. search needs)
+    returns-3
+    (λ c. search needs)
+    (λ c κs. search needs)
+    add-at
+    loop-less
+    loop-again
+    (λ c. search needs)
+    (λ c κs. search needs)
+    (λ c. search needs)
+    returns-4
+    (λ c. search needs)
+    add-at-2
+    groups-past-requires
+    ruby-past-requires
+    loop-less-2
+    loop-again-2
+    (λ c κs. search needs)
+    returns-5
+    returns-6)
