@@ -12,7 +12,7 @@ pub mod ReadOnSlot
 pub mod Lists
 pub mod Fresh
 pub mod Encode
-pub mod AnswerFour
+pub mod NotGiven
 pub mod Slots
 pub mod SlotChanges
 pub mod Replacing
@@ -28,6 +28,7 @@ pub mod Runs
 pub mod Told
 pub mod RunLaws
 pub mod EditRuns
+pub mod ImportRuns
 pub mod Booked
 pub mod SingleEdits
 pub mod Histories

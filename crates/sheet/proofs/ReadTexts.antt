@@ -1,19 +1,18 @@
 -- What a program does that has read a text: that it is what an import does. Assumes nothing.
-use mathlib.Core.Path.{_≡_, sym, ap, _∙_}
+use mathlib.Core.Path.{_≡_, ap, _∙_}
 use Prim.Native.Nat.{ℕ, _≤_}
 use native.Mathlib.Omega.{arith}
-use mathlib.Core.Bool.{cond}
 use mathlib.Core.List.{List}
 use mathlib.Core.Option.{some}
-use lib.Dec.{eqb}
 use lib.ListN.{take}
-use Rattle.rules.specs.Sheet.{slotAt, withSlot}
-use Rattle.rules.specs.Refusals.{Answer, EditAnswer, editSays, asEdit, Outcome, called, onSlot}
+use Rattle.rules.specs.Sheet.{slotAt}
+use Rattle.rules.specs.Refusals.{EditAnswer, editSays, asEdit, Outcome, onSlot}
 use Rattle.leaflet.specs.Reader.{faultIn, wordsIn}
 use Rattle.leaflet.specs.Values.{ReadAs, at-fault, in-words}
 use Rattle.leaflet.specs.declared.reader.Reading.{Reading}
 use Rattle.leaflet.specs.declared.reader.Reading.the-variants.{Fault, Words}
 use Rattle.sheet.specs.Import.{replaceSlot, import}
+use Rattle.sheet.proofs.OnSlot.{on-same}
 use Rattle.sheet.proofs.Replacing.{replaced-cut}
 
 -- what is put of a text's words, with room for one record more than a slot holds, does what all of them do
@@ -21,14 +20,6 @@ replaced-text : (s : List ℕ) (size : ℕ) (text : List ℕ) →
     replaceSlot s (take 1542 (wordsIn size text)) ≡ replaceSlot s (wordsIn size text)
 unfolding wordsIn
 replaced-text s size text = replaced-cut s _
-
--- a call on a slot depends on what is done on that slot alone
-on-same : {A : Type 0} (refused : Answer → A) (ws : List ℕ) (caller k : ℕ) (f g : List ℕ → Outcome A) →
-    f (slotAt ws k) ≡ g (slotAt ws k) → onSlot refused ws caller k f ≡ onSlot refused ws caller k g
-unfolding onSlot
-on-same {A} refused ws caller k f g e =
-    let a = called ws caller k in
-    ap (λ (o : Outcome A). cond (eqb (a .number) 0) (o .0, withSlot ws k (o .1)) (refused a, ws)) e
 
 by-words : (ws : List ℕ) (caller k size : ℕ) (text put : List ℕ) → put ≡ take 1542 (wordsIn size text) →
     onSlot asEdit ws caller k (λ s. replaceSlot s put)

@@ -9,8 +9,11 @@ use contract.Lifetimes.{Lfts}
 use denote.Ref.{now}
 use denote.Triple.Clauses.{AtExit}
 use borrow.Fn.Kinds.{PK, RK, Out, Dens, resT, endedOf}
-use Rattle.rules.specs.Sheet.{slotAt}
+use Rattle.rules.specs.Records.{recordWords}
+use Rattle.rules.specs.Sheet.{countOf, slotAt}
 use Rattle.rules.specs.Refusals.{says, EditAnswer, editSays}
+use Rattle.leaflet.specs.Contents.{Piece, reading}
+use Rattle.leaflet.specs.Imported.{importedRecords}
 use Rattle.sheet.specs.Book.{Call, call-set-up, call-on, edits, imports, reads}
 use Rattle.sheet.specs.Book.{Reply, set-up-reply, edit-reply, read-reply}
 use Rattle.sheet.specs.declared.Clinic.{Clinic}
@@ -105,6 +108,16 @@ module _ (u : ImportRun) where
 
   abbrev pub importAfter : List ℕ
   importAfter = slotAt (now (u .exit .0)) (importSlot .0)
+
+-- an edit that is an import's of a content: on the same sheet, by the same caller and on the same slot, at place 0, it
+-- deletes as many records as the slot has and inserts the words of the content's
+pub record EditOf (u : ImportRun) (ps : List Piece) (e : EditRun) : Type 0 where
+  pub same-sheet : now (e .args .0) ≡ now (u .args .0)
+  pub same-caller : caller e ≡ importer u
+  pub same-slot : slot e ≡ importSlot u
+  pub start : place e ≡ 0
+  pub all : deleted e ≡ countOf (importBefore u)
+  pub words : inserted e ≡ recordWords (importedRecords (size u) (reading ps))
 
 -- two calls one after the other, in either order, of which one finds the sheet p and leaves it q, and the other finds
 -- r and leaves s: the sheet before both, and after both

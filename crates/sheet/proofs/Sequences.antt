@@ -12,7 +12,7 @@ use Rattle.sheet.specs.Book.{Call, call-set-up, call-on, Reply, set-up-r
 use Rattle.sheet.specs.Book.{step, runSheet, runBook}
 use Rattle.sheet.specs.Book.{BookSlot, bookSetUp, bookStep, encode, inWords}
 use Rattle.sheet.proofs.Faulted.{unless}
-use Rattle.sheet.proofs.AnswerFour.{set-up-not-4}
+use Rattle.sheet.proofs.NotGiven.{set-up-not-4}
 use Rattle.sheet.proofs.Encode.{WellFormed, encode-empty}
 use Rattle.sheet.proofs.Steps.{agrees}
 use Rattle.sheet.proofs.Stays.{stays, new-book, on-book-not-4}

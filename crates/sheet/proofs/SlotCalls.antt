@@ -22,7 +22,7 @@ use Rattle.rules.proofs.SlotWords.{slot-count, slot-line-count, slot-lines}
 use Rattle.sheet.proofs.Encode.{Sound}
 use Rattle.sheet.proofs.Slots.{bookAnswer, edited-sound, slot-edits}
 use Rattle.sheet.proofs.SlotChanges.{length-edit-slot, slot-refused}
-use Rattle.sheet.proofs.AnswerFour.{judged-not-4}
+use Rattle.sheet.proofs.NotGiven.{judged-not}
 
 pub record Keeps (q : SlotCall) : Type 0 where
   -- a refusal by the rows 1 to 3 gives their number
@@ -48,7 +48,7 @@ keeps-edit place deleted inserted =
           ap (λ (o : Outcome EditAnswer). (edit-reply (o .0), o .1)) (slot-edits s h place deleted inserted);
       sound = λ s h c. edited-sound place deleted inserted s h c;
       book-unchanged = λ s z. rw (ne-eqb (bookAnswer place deleted inserted s .number) 0 z);
-      never-4 = λ s e. judged-not-4 _ _ _ (passed 4 (bookEditRows place deleted inserted s) _ refl e .1);
+      never-4 = λ s e. judged-not 4 refl _ _ _ (passed 4 (bookEditRows place deleted inserted s) _ refl e .1);
     }
 
 -- an import is the edit that deletes all records, whose count the slot's words and the book have alike

@@ -1,5 +1,5 @@
--- Document 01, "The book of demand 3": the book, the calls in it and on the sheet, and sequences of calls; with imports,
--- as document 02's request 05 has them: "Demand 3's sequences hold imports too".
+-- Document 01, "The book of demand 3": the book, the calls in it and on the sheet, and sequences of calls; with
+-- document 02's request 05: "Demand 3's sequences hold imports too".
 --
 --   book         for each slot its setting and its records in order
 --   call         set-up, or a call on a slot by a caller, with its arguments; read and its companion together are one
@@ -11,9 +11,9 @@
 --   encode       the words of a sheet whose slots hold what the book's slots hold
 --   single       what a fresh slot holds after the single edit of the book's records
 --
--- A call on a slot is one clause of `refusal`, `faultOf`, `inSlot` and `inBook`; the rows 1 to 3 stand once, in `onSlot`
--- of crate `rules` and in `onBookSlot`, and 17 before them. The book's tables have the rows of document 01's in its
--- order. Answer 4 has no row: it cannot come up. Assumes nothing.
+-- A call on a slot is one clause of `refusal`, `faultOf`, `inSlot` and `inBook`; the rows 1 to 3 stand once, in
+-- `onSlot` of crate `rules` and in `onBookSlot`, and 17 stands before them. The book's tables have the rows of document
+-- 01's in its order. Answer 4 has no row: it cannot come up. Assumes nothing.
 use Prim.Native.Nat.{ℕ, zero, suc, _+_, _-_, _*_, _/_, _%_}
 use mathlib.Core.Bool.{Bool, cond, not, _||_}
 use mathlib.Core.List.{List, [], _∷_, _++_}

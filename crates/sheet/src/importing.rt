@@ -69,8 +69,8 @@ fn replace_by(
     as_import(replace_all(sheet, caller, slot, &all[0..n]))
 }
 
-// Replaces all of a slot's records by those of a leaflet, composes the slot anew, and reports how many of its lines that
-// redid. The text is judged before anything else is looked at.
+// Replaces all of a slot's records by those of a leaflet, composes the slot anew, and reports how many of its lines
+// that redid. The text is judged before anything else is looked at.
 pub fn import(
     sheet: &mut [u32],
     caller: Clinic,
