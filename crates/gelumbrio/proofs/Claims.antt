@@ -8,14 +8,17 @@ use Rattle.sheet.specs.Book.{SlotCall, reads, call-on, numberOf}
 use Rattle.sheet.specs.Meanings.{Outside, AlikeFor, LeftAlike}
 use Rattle.sheet.specs.declared.Clinic.{Clinic}
 use Rattle.sheet.specs.declared.SlotNumber.{SlotNumber}
-use Rattle.sheet.proofs.Runs.{SetUpRun, EditRun, PartRun, NumberRun, call, before, after, reply, Chained}
+use Rattle.sheet.proofs.Runs.{SetUpRun, EditRun, ImportRun, PartRun, NumberRun, call, before, after, reply, Chained}
 use Rattle.sheet.proofs.Booked.{Begun, AsBooked}
 use Rattle.sheet.proofs.Claims as sheet
-use Rattle.gelumbrio.proofs.Exports.{SetUpExport, EditExport, PartExport, NumberExport, Export, handed}
+use Rattle.gelumbrio.proofs.Exports.{SetUpExport, EditExport, ImportExport, PartExport, NumberExport}
+use Rattle.gelumbrio.proofs.Exports.{Export, handed}
 use Rattle.gelumbrio.proofs.gelumbrio_set_up.Statement as set-up-contract
 use Rattle.gelumbrio.proofs.gelumbrio_set_up.Met as set-up-met
 use Rattle.gelumbrio.proofs.gelumbrio_edit.Statement as edit-contract
 use Rattle.gelumbrio.proofs.gelumbrio_edit.Met as edit-met
+use Rattle.gelumbrio.proofs.gelumbrio_import.Statement as import-contract
+use Rattle.gelumbrio.proofs.gelumbrio_import.Met as import-met
 use Rattle.gelumbrio.proofs.gelumbrio_read.Statement as read-contract
 use Rattle.gelumbrio.proofs.gelumbrio_read.Met as read-met
 use Rattle.gelumbrio.proofs.gelumbrio_read_number.Statement as read-number-contract
@@ -36,6 +39,9 @@ set-up-meets = set-up-met.met
 pub edit-meets : {M : Type 1} → edit-contract.statement M
 edit-meets = edit-met.met
 
+pub import-meets : {M : Type 1} → import-contract.statement M
+import-meets = import-met.met
+
 pub read-meets : {M : Type 1} → read-contract.statement M
 read-meets = read-met.met
 
@@ -55,8 +61,9 @@ class-of-meets = class-of-met.met
 -- that crate `sheet` claims of runs holds of it
 pub same-runs :
     (_≡_ {A = Type 0} SetUpExport SetUpRun) × (_≡_ {A = Type 0} EditExport EditRun)
-    × (_≡_ {A = Type 0} PartExport PartRun) × (_≡_ {A = Type 0} NumberExport NumberRun)
-same-runs = (refl, refl, refl, refl)
+    × (_≡_ {A = Type 0} ImportExport ImportRun) × (_≡_ {A = Type 0} PartExport PartRun)
+    × (_≡_ {A = Type 0} NumberExport NumberRun)
+same-runs = (refl, refl, refl, refl, refl)
 
 -- every refusal leaves the whole sheet unchanged, and no call changes its length
 pub refusals-change-nothing : (e : Export) → let r = handed e in (numberOf (reply r) ≡ 0 → ⊥) → after r ≡ before r

@@ -1,11 +1,13 @@
 -- Runs of the exports, of which the claims speak: arguments, result, parameters at exit, and what the export's own
 -- contract promises of these. Assumes nothing.
 use denote.Ref.{now}
-use Rattle.sheet.proofs.Runs.{Ran, Together, Run, set-up-run, edit-run, read-part-run}
+use Rattle.sheet.proofs.Runs.{Ran, Together, Run, set-up-run, edit-run, import-run, read-part-run}
 use Rattle.gelumbrio.proofs.gelumbrio_set_up.Kinds as set-up-kinds
 use Rattle.gelumbrio.proofs.gelumbrio_set_up.Reads as set-up-reads
 use Rattle.gelumbrio.proofs.gelumbrio_edit.Kinds as edit-kinds
 use Rattle.gelumbrio.proofs.gelumbrio_edit.Reads as edit-reads
+use Rattle.gelumbrio.proofs.gelumbrio_import.Kinds as import-kinds
+use Rattle.gelumbrio.proofs.gelumbrio_import.Reads as import-reads
 use Rattle.gelumbrio.proofs.gelumbrio_read.Kinds as read-kinds
 use Rattle.gelumbrio.proofs.gelumbrio_read.Reads as read-reads
 use Rattle.gelumbrio.proofs.gelumbrio_read_number.Kinds as number-kinds
@@ -16,6 +18,9 @@ SetUpExport = Ran 4 set-up-kinds.ps set-up-kinds.r set-up-reads.Learnt
 
 abbrev pub EditExport : Type 0
 EditExport = Ran 2 edit-kinds.ps edit-kinds.r edit-reads.Learnt
+
+abbrev pub ImportExport : Type 0
+ImportExport = Ran 2 import-kinds.ps import-kinds.r import-reads.Learnt
 
 abbrev pub PartExport : Type 0
 PartExport = Ran 1 read-kinds.ps read-kinds.r read-reads.Learnt
@@ -33,10 +38,12 @@ pub record ReadExport : Type 0 where
 pub data Export : Type 0 where
   set-up-export : SetUpExport → Export
   edit-export : EditExport → Export
+  import-export : ImportExport → Export
   read-export : ReadExport → Export
 
 -- an export's run is one of the call that it hands on: the two contracts are the same statement
 abbrev pub handed : Export → Run
 handed (set-up-export u) = set-up-run u
 handed (edit-export u) = edit-run u
+handed (import-export u) = import-run u
 handed (read-export u) = read-part-run (record { part = u .part; number = u .number; together = u .together })

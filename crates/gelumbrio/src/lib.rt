@@ -1,8 +1,9 @@
-// The calls for programs in C and Rust. A slice passes as a pointer, then its length in words. The header that
-// declares them is include/gelumbrio.h.
+// The calls for programs in C and Rust. A slice passes as a pointer, then its length in words, or in bytes where it is
+// text. The header that declares them is include/gelumbrio.h.
 use sheet::Answer;
 use sheet::Clinic;
 use sheet::EditAnswer;
+use sheet::ImportAnswer;
 use sheet::Part;
 use sheet::RubyPlace;
 use sheet::SlotNumber;
@@ -11,6 +12,7 @@ ghost use mathlib.Core.Bool.{cond};
 ghost use Rattle.lists.specs.Lists.{inList, classOf};
 ghost use Rattle.rules.specs.Groups.{rubyPlace};
 ghost use Rattle.rules.specs.Refusals.{says, editSays, setUp, edit, readNumber, readPart};
+ghost use Rattle.sheet.specs.Import.{import};
 
 #[no_mangle]
 pub extern "C" fn gelumbrio_set_up(
@@ -38,6 +40,20 @@ pub extern "C" fn gelumbrio_edit(
         edit (now (sheet .entry)) (caller .0) (slot .0) place deleted (now (inserted .entry)) ⌝ }
 {
     sheet::edit(sheet, caller, slot, place, deleted, inserted)
+}
+
+#[no_mangle]
+pub extern "C" fn gelumbrio_import(
+    sheet: &mut [u32],
+    caller: Clinic,
+    slot: SlotNumber,
+    size: u32,
+    text: &[u8],
+) -> ImportAnswer
+    ensures { λ r. ⌜ (editSays (r .number) (r .place) (r .redone), now (sheet .exit)) ≡
+        import (now (sheet .entry)) (caller .0) (slot .0) size (now (text .entry)) ⌝ }
+{
+    sheet::import(sheet, caller, slot, size, text)
 }
 
 #[no_mangle]

@@ -1,8 +1,8 @@
 -- What is proved of the calls on a sheet, in reading order: each claim is proved by one citation. All but the last
 -- speak of runs of the calls themselves, defined over their contracts in proofs/Runs.antt; what demand 3 says of a
 -- sequence of runs is proofs/Booked.antt. The other words of the claims are defined in specs/Book.antt and
--- specs/Meanings.antt; the rules in crate `rules`, whose own proofs/Claims.antt has what is proved of them alone.
--- Assumes nothing.
+-- specs/Meanings.antt; the rules in crate `rules`, whose own proofs/Claims.antt has what is proved of them alone; what
+-- a text spells and where it has its fault in crate `leaflet`, likewise. Assumes nothing.
 use mathlib.Core.Path.{_≡_}
 use Prim.Native.Nat.{ℕ, _*_, _/_, _<_}
 use mathlib.Core.List.{List, []}
@@ -19,6 +19,9 @@ use Rattle.rules.specs.Refusals.{Outcome, edited}
 use Rattle.rules.specs.Stable.{Used, usedBy, usedOf, ruledLines, AsRuled, StableEdit}
 use Rattle.rules.specs.Meanings.{All, Choice, Fits, Longest, FirstWide, RubyPlaced, FirstLacking, Listed}
 use Rattle.rules.proofs.Claims.{lines-chosen}
+use Rattle.leaflet.specs.Contents.{Piece, Spells, Accepted, reading}
+use Rattle.leaflet.specs.Faults.{Fault}
+use Rattle.leaflet.specs.Imported.{importedRecords}
 use Rattle.sheet.specs.Book.{SlotCall, reads, Call, call-on, Reply, read-reply, numberOf, step}
 use Rattle.sheet.specs.Book.{BookSlot, bookStep}
 use Rattle.sheet.specs.Meanings.{Outside, AlikeFor, LeftAlike, NoneBefore12, NoEarlier, Spliced}
@@ -26,6 +29,7 @@ use Rattle.sheet.specs.declared.Clinic.{Clinic}
 use Rattle.sheet.specs.declared.SlotNumber.{SlotNumber}
 use Rattle.sheet.proofs.Stays.{book-refused}
 use Rattle.sheet.proofs.Runs.{EditRun, caller, slot, place, deleted, inserted, answer, slotBefore, slotAfter}
+use Rattle.sheet.proofs.Runs.{ImportRun, size, text, importAnswer, importAfter, EditOf}
 use Rattle.sheet.proofs.Runs.{Run, call, before, after, reply, Chained, final}
 use Rattle.sheet.proofs.Told.{told}
 use Rattle.sheet.proofs.RunLaws.{run-unchanged, run-length, run-alike, run-frame, read-lines, read-nothing}
@@ -33,12 +37,16 @@ use Rattle.sheet.proofs.RunLaws.{read-kept}
 use Rattle.sheet.proofs.EditRuns.{run-splices, run-found-0, run-0, run-10, run-10-place, run-rubies, run-read}
 use Rattle.sheet.proofs.EditRuns.{run-stable, run-as-ruled, run-words-stable, run-none}
 use Rattle.sheet.proofs.EditRuns.{run-12, run-12-place, run-listed}
+use Rattle.sheet.proofs.ImportRuns.{import-17, import-not-17, import-none, import-edit, import-has-edit}
+use Rattle.sheet.proofs.ImportRuns.{import-leaves}
 use Rattle.sheet.proofs.Booked.{Begun, AsBooked}
 use Rattle.sheet.proofs.Histories.{as-booked, slots-as-ruled, slots-listed}
 use Rattle.sheet.proofs.setting.set_up.Statement as set-up-contract
 use Rattle.sheet.proofs.setting.set_up.Met as set-up-met
 use Rattle.sheet.proofs.edit.Statement as edit-contract
 use Rattle.sheet.proofs.edit.Met as edit-met
+use Rattle.sheet.proofs.importing.import.Statement as import-contract
+use Rattle.sheet.proofs.importing.import.Met as import-met
 use Rattle.sheet.proofs.read.Statement as read-contract
 use Rattle.sheet.proofs.read.Met as read-met
 use Rattle.sheet.proofs.read_part.Statement as read-part-contract
@@ -54,6 +62,9 @@ set-up-meets = set-up-met.met
 
 pub edit-meets : {M : Type 1} → edit-contract.statement M
 edit-meets = edit-met.met
+
+pub import-meets : {M : Type 1} → import-contract.statement M
+import-meets = import-met.met
 
 pub read-meets : {M : Type 1} → read-contract.statement M
 read-meets = read-met.met
@@ -181,6 +192,36 @@ module _ (r : Run) (c : Clinic) (k : SlotNumber) (e : call r ≡ call-on c k rea
   -- a refused one hands back nothing
   pub read-hands-none : (numberOf (reply r) ≡ 0 → ⊥) → reply r ≡ read-reply (numberOf (reply r)) []
   read-hands-none h = read-nothing r c k e h
+
+-- Request 05: what an import does -------------------------------------------------------------------------------------
+
+module _ (u : ImportRun) where
+  -- 17 is given exactly where the text has a fault, and names its place: whatever the sheet, the caller, the slot and
+  -- the size
+  pub import-17-exactly : (p : ℕ) → ((importAnswer u .number ≡ 17) × (importAnswer u .place ≡ p)) ↔ Fault (text u) p
+  import-17-exactly p = import-17 u p
+
+  -- so another answer is given exactly where the text is accepted
+  pub import-accepts : (importAnswer u .number ≡ 17 → ⊥) ↔ Accepted (text u)
+  import-accepts = import-not-17 u
+
+  -- a refused import reports no lines redone; that it changes nothing is `refusals-change-nothing`
+  pub refused-import-reports-none : (importAnswer u .number ≡ 0 → ⊥) → importAnswer u .redone ≡ 0
+  refused-import-reports-none h = import-none u h
+
+  module _ (ps : List Piece) (s : Spells (text u) ps) where
+    -- of an accepted text it is its edit: every such run of edit answers the same, and leaves the same sheet
+    pub import-is-edit : (e : EditRun) → EditOf u ps e →
+        (importAnswer u ≡ answer e) × (now (u .exit .0) ≡ now (e .exit .0))
+    import-is-edit e h = import-edit u ps s e h
+
+    -- and there is one, so that all that is claimed of edits holds of it
+    pub import-edits : (e : EditRun) × EditOf u ps e
+    import-edits = import-has-edit u ps s
+
+    -- accepted: the slot has exactly the leaflet's records, and nothing of the old ones is left
+    pub import-records : importAnswer u .number ≡ 0 → recordsOf (importAfter u) ≡ importedRecords (size u) (reading ps)
+    import-records h = import-leaves u ps s h
 
 -- Demand 3: sequences of calls, a call's reach, and two sheets -------------------------------------------------------
 

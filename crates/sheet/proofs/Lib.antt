@@ -5,15 +5,18 @@ pub mod Lengths
 pub mod Entry
 pub mod Parts
 pub mod OnSlot
+pub mod Faulted
 pub mod Alike
 pub mod Reading
 pub mod ReadOnSlot
 pub mod Lists
 pub mod Fresh
 pub mod Encode
-pub mod AnswerFour
+pub mod NotGiven
 pub mod Slots
 pub mod SlotChanges
+pub mod Replacing
+pub mod ReadTexts
 pub mod SlotCalls
 pub mod Steps
 pub mod Stays
@@ -25,6 +28,7 @@ pub mod Runs
 pub mod Told
 pub mod RunLaws
 pub mod EditRuns
+pub mod ImportRuns
 pub mod Booked
 pub mod SingleEdits
 pub mod Histories

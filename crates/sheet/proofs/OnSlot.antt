@@ -3,6 +3,7 @@
 use mathlib.Core.Path.{_≡_, refl, ap, _∙_}
 use Prim.Native.Nat.{ℕ, _+_, _-_, _*_, _≤_}
 use native.Mathlib.Omega.{arith}
+use mathlib.Core.Bool.{cond}
 use mathlib.Core.List.{List}
 use mathlib.Core.Logic.{inl, inr}
 use lib.Dec.{eqb}
@@ -92,6 +93,14 @@ module _ {A : Type 0} (refused : Answer → A) (ws : List ℕ) (caller k : ℕ) 
       from : {o : Outcome A} → Done o → (number (o .0) ≡ 0 → ⊥) → o .1 ≡ ws
       from (entering e) z = ap (withSlot ws k) (unchanged _ z) ∙ put-back ws k
       from (refusing e) z = refl
+
+-- a call on a slot depends on what is done on that slot alone
+pub on-same : {A : Type 0} (refused : Answer → A) (ws : List ℕ) (caller k : ℕ) (f g : List ℕ → Outcome A) →
+    f (slotAt ws k) ≡ g (slotAt ws k) → onSlot refused ws caller k f ≡ onSlot refused ws caller k g
+unfolding onSlot
+on-same {A} refused ws caller k f g e =
+    let a = called ws caller k in
+    ap (λ (o : Outcome A). cond (eqb (a .number) 0) (o .0, withSlot ws k (o .1)) (refused a, ws)) e
 
 -- the same call with its answer told in another way
 pub on-reply : {A B : Type 0} (tell : A → B) (refused : Answer → A) (ws : List ℕ) (caller k : ℕ)

@@ -1,16 +1,18 @@
 -- Laws of each run of a call, from those of the definitions: what it leaves alone, what it goes by, and what reads
 -- hand back. Assumes nothing.
-use mathlib.Core.Path.{_≡_, sym, ap, subst, _∙_}
+use mathlib.Core.Path.{_≡_, refl, sym, ap, subst, _∙_}
 use Prim.Native.Nat.{ℕ, _*_}
 use mathlib.Core.List.{List, []}
 use lib.ListN.{length, getD, take, drop}
 use Rattle.rules.specs.Sheet.{lineCountOf, slotAt}
 use Rattle.rules.specs.Refusals.{Outcome, readNumber, readWords}
-use Rattle.sheet.specs.Book.{SlotCall, reads, call-on, Reply, read-reply, numberOf, refusal, inSlot, step}
+use Rattle.sheet.specs.Book.{SlotCall, reads, call-on, Reply, edit-reply, read-reply, numberOf, refusal}
+use Rattle.sheet.specs.Book.{faultOf, inSlot, step}
 use Rattle.sheet.specs.Meanings.{Outside, AlikeFor, LeftAlike}
 use Rattle.sheet.specs.declared.Clinic.{Clinic}
 use Rattle.sheet.specs.declared.SlotNumber.{SlotNumber}
 use Rattle.sheet.proofs.OnSlot.{on-frame}
+use Rattle.sheet.proofs.Faulted.{unless}
 use Rattle.sheet.proofs.Reading.{read-slot, read-none}
 use Rattle.sheet.proofs.ReadOnSlot.{read-on-slot}
 use Rattle.sheet.proofs.SlotCalls.{keeps}
@@ -46,7 +48,9 @@ module _ (r : Run) (c : Clinic) (k : SlotNumber) where
       getD (after r) i 0 ≡ getD (before r) i 0
   run-frame q e i h =
       by-step (λ o. getD (o .1) i 0 ≡ getD (before r) i 0) r
-      (rw e (on-frame (refusal q) (before r) (c .0) (k .0) (inSlot q) (keeps q .whole) i h))
+      (rw e
+      (unless edit-reply (λ o. getD (o .1) i 0 ≡ getD (before r) i 0) (faultOf q) (before r) _ (λ p. refl)
+      (on-frame (refusal q) (before r) (c .0) (k .0) (inSlot q) (keeps q .whole) i h)))
 
   -- of a read
   module _ (e : call r ≡ call-on c k reads) where

@@ -9,14 +9,19 @@ use contract.Lifetimes.{Lfts}
 use denote.Ref.{now}
 use denote.Triple.Clauses.{AtExit}
 use borrow.Fn.Kinds.{PK, RK, Out, Dens, resT, endedOf}
-use Rattle.rules.specs.Sheet.{slotAt}
+use Rattle.rules.specs.Records.{recordWords}
+use Rattle.rules.specs.Sheet.{countOf, slotAt}
 use Rattle.rules.specs.Refusals.{says, EditAnswer, editSays}
-use Rattle.sheet.specs.Book.{Call, call-set-up, call-on, edits, reads}
+use Rattle.leaflet.specs.Contents.{Piece, reading}
+use Rattle.leaflet.specs.Imported.{importedRecords}
+use Rattle.sheet.specs.Book.{Call, call-set-up, call-on, edits, imports, reads}
 use Rattle.sheet.specs.Book.{Reply, set-up-reply, edit-reply, read-reply}
 use Rattle.sheet.specs.declared.Clinic.{Clinic}
 use Rattle.sheet.specs.declared.SlotNumber.{SlotNumber}
 use Rattle.sheet.proofs.edit.Kinds as edit-kinds
 use Rattle.sheet.proofs.edit.Reads as edit-reads
+use Rattle.sheet.proofs.importing.import.Kinds as import-kinds
+use Rattle.sheet.proofs.importing.import.Reads as import-reads
 use Rattle.sheet.proofs.setting.set_up.Kinds as set-up-kinds
 use Rattle.sheet.proofs.setting.set_up.Reads as set-up-reads
 use Rattle.sheet.proofs.read.Kinds as read-kinds
@@ -41,6 +46,9 @@ SetUpRun = Ran 4 set-up-kinds.ps set-up-kinds.r set-up-reads.Learnt
 
 abbrev pub EditRun : Type 0
 EditRun = Ran 2 edit-kinds.ps edit-kinds.r edit-reads.Learnt
+
+abbrev pub ImportRun : Type 0
+ImportRun = Ran 2 import-kinds.ps import-kinds.r import-reads.Learnt
 
 abbrev pub SliceRun : Type 0
 SliceRun = Ran 1 read-kinds.ps read-kinds.r read-reads.Learnt
@@ -78,6 +86,39 @@ module _ (u : EditRun) where
   abbrev pub slotAfter : List ℕ
   slotAfter = slotAt (now (u .exit .0)) (slot .0)
 
+-- The same of an import's run. Its answer is an edit's, or 17, its place the offset in bytes, and no lines redone
+module _ (u : ImportRun) where
+  abbrev pub importer : Clinic
+  importer = u .args .1 .0
+
+  abbrev pub importSlot : SlotNumber
+  importSlot = u .args .1 .1 .0
+
+  abbrev pub size : ℕ
+  size = u .args .1 .1 .1 .0
+
+  abbrev pub text : List ℕ
+  text = now (u .args .1 .1 .1 .1 .0)
+
+  abbrev pub importAnswer : EditAnswer
+  importAnswer = editSays (u .result .number) (u .result .place) (u .result .redone)
+
+  abbrev pub importBefore : List ℕ
+  importBefore = slotAt (now (u .args .0)) (importSlot .0)
+
+  abbrev pub importAfter : List ℕ
+  importAfter = slotAt (now (u .exit .0)) (importSlot .0)
+
+-- an edit that is an import's of a content: on the same sheet, by the same caller and on the same slot, at place 0, it
+-- deletes as many records as the slot has and inserts the words of the content's
+pub record EditOf (u : ImportRun) (ps : List Piece) (e : EditRun) : Type 0 where
+  pub same-sheet : now (e .args .0) ≡ now (u .args .0)
+  pub same-caller : caller e ≡ importer u
+  pub same-slot : slot e ≡ importSlot u
+  pub start : place e ≡ 0
+  pub all : deleted e ≡ countOf (importBefore u)
+  pub words : inserted e ≡ recordWords (importedRecords (size u) (reading ps))
+
 -- two calls one after the other, in either order, of which one finds the sheet p and leaves it q, and the other finds
 -- r and leaves s: the sheet before both, and after both
 pub data InTurn (p q r s : List ℕ) : List ℕ → List ℕ → Type 0 where
@@ -109,6 +150,7 @@ pub record ReadPartRun : Type 0 where
 pub data Run : Type 0 where
   set-up-run : SetUpRun → Run
   edit-run : EditRun → Run
+  import-run : ImportRun → Run
   read-run : ReadRun → Run
   read-part-run : ReadPartRun → Run
 
@@ -116,18 +158,21 @@ pub data Run : Type 0 where
 abbrev pub call : Run → Call
 call (set-up-run u) = call-set-up (now (u .args .1 .0)) (now (u .args .1 .1 .0)) (now (u .args .1 .1 .1 .0))
 call (edit-run u) = call-on (caller u) (slot u) (edits (place u) (deleted u) (inserted u))
+call (import-run u) = call-on (importer u) (importSlot u) (imports (size u) (text u))
 call (read-run u) = call-on (u .part .args .1 .0) (u .part .args .1 .1 .0) reads
 call (read-part-run u) = call-on (u .part .args .1 .0) (u .part .args .1 .1 .0) reads
 
 abbrev pub before : Run → List ℕ
 before (set-up-run u) = now (u .args .0)
 before (edit-run u) = now (u .args .0)
+before (import-run u) = now (u .args .0)
 before (read-run u) = u .together .found
 before (read-part-run u) = u .together .found
 
 abbrev pub after : Run → List ℕ
 after (set-up-run u) = now (u .exit .0)
 after (edit-run u) = now (u .exit .0)
+after (import-run u) = now (u .exit .0)
 after (read-run u) = u .together .left
 after (read-part-run u) = u .together .left
 
@@ -138,6 +183,7 @@ between start end ws = take (end - start) (drop start ws)
 abbrev pub reply : Run → Reply
 reply (set-up-run u) = set-up-reply (says (u .result .number) (u .result .place))
 reply (edit-run u) = edit-reply (answer u)
+reply (import-run u) = edit-reply (importAnswer u)
 reply (read-run u) = read-reply (u .number .result) (now (u .part .result))
 reply (read-part-run u) =
     read-reply (u .number .result) (between (u .part .result .start) (u .part .result .end) (u .together .left))

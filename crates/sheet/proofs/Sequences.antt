@@ -2,14 +2,17 @@
 -- book's words. Assumes nothing.
 use mathlib.Core.Path.{_≡_, refl, ap, _∙_}
 use Prim.Native.Nat.{ℕ, _/_}
+use native.Mathlib.Omega.{arith}
 use mathlib.Core.List.{List, [], _∷_, _++_}
 use lib.ListN.{length}
 use borrow.Author.Tests.{eq-eqb, ne-eqb}
 use Rattle.rules.specs.Refusals.{Outcome, setUpAnswer, setUp}
 use Rattle.rules.specs.Meanings.{All, all-none, all-more}
-use Rattle.sheet.specs.Book.{Call, call-set-up, call-on, Reply, set-up-reply, numberOf, step, runSheet, runBook}
+use Rattle.sheet.specs.Book.{Call, call-set-up, call-on, Reply, set-up-reply, edit-reply, numberOf, faultOf}
+use Rattle.sheet.specs.Book.{step, runSheet, runBook}
 use Rattle.sheet.specs.Book.{BookSlot, bookSetUp, bookStep, encode, inWords}
-use Rattle.sheet.proofs.AnswerFour.{set-up-not-4}
+use Rattle.sheet.proofs.Faulted.{unless}
+use Rattle.sheet.proofs.NotGiven.{set-up-not-4}
 use Rattle.sheet.proofs.Encode.{WellFormed, encode-empty}
 use Rattle.sheet.proofs.Steps.{agrees}
 use Rattle.sheet.proofs.Stays.{stays, new-book, on-book-not-4}
@@ -83,8 +86,10 @@ restarts n before cs ms xs after b z =
 
 book-not-4 : (n : ℕ) (c : Call) (b : List BookSlot) → numberOf (bookStep n c b .0) ≡ 4 → ⊥
 unfolding bookSetUp
-book-not-4 n (call-set-up cs ms xs) b e = set-up-not-4 n cs ms xs e
-book-not-4 n (call-on c k q) b e = on-book-not-4 q n (c .0) (k .0) b e
+book-not-4 n (call-set-up cs ms xs) b = set-up-not-4 n cs ms xs
+book-not-4 n (call-on c k q) b =
+    unless edit-reply (λ o. numberOf (o .0) ≡ 4 → ⊥) (faultOf q) b _ (λ p e. omega (arith, e))
+    (on-book-not-4 q n (c .0) (k .0) b)
 
 -- it never comes up in the book
 pub never-4 : (n : ℕ) (cs : List Call) (b : List BookSlot) → All (λ r. numberOf r ≡ 4 → ⊥) (runBook n cs b .0)

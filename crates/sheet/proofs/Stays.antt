@@ -11,12 +11,13 @@ use lib.Seq.{set-getD}
 use borrow.Author.Tests.{eqb-true, ne-eqb}
 use Rattle.rules.specs.Refusals.{says, setUpAnswer}
 use Rattle.rules.proofs.Facts.{tested}
-use Rattle.sheet.specs.Book.{SlotCall, Call, call-set-up, call-on, Reply, numberOf, refusal}
+use Rattle.sheet.specs.Book.{SlotCall, Call, call-set-up, call-on, Reply, edit-reply, numberOf, refusal, faultOf}
 use Rattle.sheet.specs.Book.{BookSlot, bookAt, emptySlots, bookSetUp, bookCallRows, bookCalled}
 use Rattle.sheet.specs.Book.{onBookSlot, inBook, bookStep}
 use Rattle.sheet.proofs.Tables.{passed}
 use Rattle.sheet.proofs.Lists.{accepted, accepted-limits}
 use Rattle.sheet.proofs.Encode.{Sound, WellFormed, all-set, length-empty, sound-empty}
+use Rattle.sheet.proofs.Faulted.{unless}
 use Rattle.sheet.proofs.SlotCalls.{keeps}
 use Rattle.sheet.proofs.Steps.{here, assigned}
 
@@ -63,7 +64,8 @@ module _ (n : ℕ) (b : List BookSlot) (g : WellFormed n b) where
         | inl e ↦ rw e (new-book n cs ms xs (eqb-true _ _ e))
         | inr e ↦ rw e g
       ]
-  stays (call-on c k q) = on-stays q (c .0) (k .0)
+  stays (call-on c k q) =
+      unless edit-reply (λ o. WellFormed n (o .1)) (faultOf q) b _ (λ p. g) (on-stays q (c .0) (k .0))
 
 -- Any book ----------------------------------------------------------------------------------------------------------
 
@@ -94,5 +96,7 @@ module _ (q : SlotCall) (n caller k : ℕ) (b : List BookSlot) where
 pub book-refused : (n : ℕ) (c : Call) (b : List BookSlot) → (numberOf (bookStep n c b .0) ≡ 0 → ⊥) →
     bookStep n c b .1 ≡ b
 unfolding bookSetUp
-book-refused n (call-set-up cs ms xs) b z = rw (ne-eqb _ _ z)
-book-refused n (call-on c k q) b z = on-book-unchanged q n (c .0) (k .0) b z
+book-refused n (call-set-up cs ms xs) b = λ z. rw (ne-eqb _ _ z)
+book-refused n (call-on c k q) b =
+    unless edit-reply (λ o. (numberOf (o .0) ≡ 0 → ⊥) → o .1 ≡ b) (faultOf q) b _ (λ p z. refl)
+    (on-book-unchanged q n (c .0) (k .0) b)

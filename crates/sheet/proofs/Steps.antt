@@ -10,13 +10,15 @@ use borrow.Author.Tests.{eqb-true}
 use Rattle.rules.specs.Sheet.{slotAt}
 use Rattle.rules.specs.Refusals.{Answer, Outcome, callRows, called, onSlot, setUpAnswer, setUp}
 use Rattle.rules.proofs.Facts.{tested}
-use Rattle.sheet.specs.Book.{SlotCall, Call, call-set-up, call-on, set-up-reply, refusal, inSlot, step}
+use Rattle.sheet.specs.Book.{SlotCall, Call, call-set-up, call-on, Reply, set-up-reply, edit-reply, refusal}
+use Rattle.sheet.specs.Book.{faultOf, inSlot, step}
 use Rattle.sheet.specs.Book.{BookSlot, bookAt, bookSetUp, bookCallRows, bookCalled, onBookSlot, inBook, bookStep}
 use Rattle.sheet.specs.Book.{encodeSlot, encode, inWords}
 use Rattle.sheet.proofs.Tables.{same-number}
 use Rattle.sheet.proofs.Entry.{entered}
 use Rattle.sheet.proofs.Encode.{Sound, WellFormed, all-at, length-encode, slot-of, with-slot}
 use Rattle.sheet.proofs.Encode.{clinic-of, encode-empty}
+use Rattle.sheet.proofs.Faulted.{unless-in-words}
 use Rattle.sheet.proofs.SlotCalls.{keeps}
 
 module _ (n : ℕ) (b : List BookSlot) (g : WellFormed n b) where
@@ -76,4 +78,4 @@ module _ (n : ℕ) (b : List BookSlot) (g : WellFormed n b) where
   -- each call answers what the book answers, and leaves the book's words
   pub agrees : (c : Call) → step c (encode b) ≡ inWords (bookStep n c b)
   agrees (call-set-up cs ms xs) = ap (λ (o : Outcome Answer). (set-up-reply (o .0), o .1)) (set-ups cs ms xs)
-  agrees (call-on c k q) = on-slots (c .0) (k .0) q
+  agrees (call-on c k q) = unless-in-words (faultOf q) b _ _ (on-slots (c .0) (k .0) q)

@@ -5,16 +5,20 @@ use mathlib.Core.List.{List, [], _∷_, map}
 use denote.Ref.{now}
 use Rattle.rules.specs.Refusals.{Answer, EditAnswer, asEdit, Outcome, editSlot, onSlot, edit}
 use Rattle.rules.specs.Refusals.{readNumber, readPart, readWords}
-use Rattle.sheet.specs.Book.{edits, reads, refusal, inSlot, step, runSheet}
+use Rattle.leaflet.specs.Reader.{faultIn, wordsIn}
+use Rattle.sheet.specs.Import.{replaceSlot, unlessFault, import}
+use Rattle.sheet.specs.Book.{edits, imports, reads, refusal, inSlot, step, runSheet}
 use Rattle.sheet.specs.Book.{Reply, set-up-reply, edit-reply, read-reply}
 use Rattle.sheet.specs.declared.Clinic.{Clinic}
 use Rattle.sheet.specs.declared.SlotNumber.{SlotNumber}
 use Rattle.sheet.proofs.OnSlot.{on-reply}
+use Rattle.sheet.proofs.Faulted.{unless-told}
 use Rattle.sheet.proofs.Reading.{part-words}
 use Rattle.sheet.proofs.ReadOnSlot.{read-on-slot}
 use Rattle.sheet.proofs.Runs.{caller, slot, place, deleted, inserted}
 use Rattle.sheet.proofs.Runs.{InTurn, the-one-first, the-other-first, ReadRun, ReadPartRun}
-use Rattle.sheet.proofs.Runs.{Run, set-up-run, edit-run, read-run, read-part-run}
+use Rattle.sheet.proofs.Runs.{importer, importSlot, size, text}
+use Rattle.sheet.proofs.Runs.{Run, set-up-run, edit-run, import-run, read-run, read-part-run}
 use Rattle.sheet.proofs.Runs.{call, before, after, between, reply, Chained, final}
 
 -- Reads -------------------------------------------------------------------------------------------------------------
@@ -66,11 +70,26 @@ unfolding edit
 edit-step ws caller k place deleted inserted =
     on-reply edit-reply asEdit ws caller k (λ s. editSlot s place deleted inserted)
 
+-- and an import's
+import-step : (ws : List ℕ) (caller k size : ℕ) (text : List ℕ) →
+    let o = import ws caller k size text in
+    let q = imports size text in
+    _≡_ {A = Outcome Reply} (edit-reply (o .0), o .1)
+    (unlessFault edit-reply (faultIn text) ws (onSlot (refusal q) ws caller k (inSlot q)))
+unfolding import
+import-step ws caller k size text =
+    let replace : List ℕ → Outcome EditAnswer = λ s. replaceSlot s (wordsIn size text) in
+    unless-told edit-reply (faultIn text) ws (onSlot asEdit ws caller k replace)
+    ∙ ap (unlessFault edit-reply (faultIn text) ws) (on-reply edit-reply asEdit ws caller k replace)
+
 pub told : (r : Run) → _≡_ {A = Outcome Reply} (reply r, after r) (step (call r) (before r))
 told (set-up-run u) = ap (λ (o : Outcome Answer). (set-up-reply (o .0), o .1)) (u .learnt)
 told (edit-run u) =
     ap (λ (o : Outcome EditAnswer). (edit-reply (o .0), o .1)) (u .learnt)
     ∙ edit-step (now (u .args .0)) (caller u .0) (slot u .0) (place u) (deleted u) (inserted u)
+told (import-run u) =
+    ap (λ (o : Outcome EditAnswer). (edit-reply (o .0), o .1)) (u .learnt)
+    ∙ import-step (now (u .args .0)) (importer u .0) (importSlot u .0) (size u) (text u)
 told (read-run u) = slice-told u
 told (read-part-run u) = part-told u
 

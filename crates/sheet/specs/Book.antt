@@ -1,21 +1,23 @@
--- Document 01, "The book of demand 3": the book, the calls in it and on the sheet, and sequences of calls.
+-- Document 01, "The book of demand 3": the book, the calls in it and on the sheet, and sequences of calls; with
+-- document 02's request 05: "Demand 3's sequences hold imports too".
 --
 --   book         for each slot its setting and its records in order
 --   call         set-up, or a call on a slot by a caller, with its arguments; read and its companion together are one
---   slot call    what is done on the slot: edit or read
---   reply        what a call gives its caller: a number and a place, with an edit's lines redone, or a read's number
---                and words
+--   slot call    what is done on the slot: edit, import or read
+--   reply        what a call gives its caller: a number and a place, with an edit's or import's lines redone, or a
+--                read's number and words
 --   step         a call on a sheet, by the definitions that the calls' contracts cite
 --   book step    a call in the book, which is told the call and the sheet's length and nothing else
 --   encode       the words of a sheet whose slots hold what the book's slots hold
 --   single       what a fresh slot holds after the single edit of the book's records
 --
--- A call on a slot is one clause of `refusal`, `inSlot` and `inBook`; the rows 1 to 3 stand once, in `onSlot` of crate
--- `rules` and in `onBookSlot`. The book's tables have the rows of document 01's in its order. Answer 4 has no row: it
--- cannot come up. Assumes nothing.
+-- A call on a slot is one clause of `refusal`, `faultOf`, `inSlot` and `inBook`; the rows 1 to 3 stand once, in
+-- `onSlot` of crate `rules` and in `onBookSlot`, and 17 stands before them. The book's tables have the rows of document
+-- 01's in its order. Answer 4 has no row: it cannot come up. Assumes nothing.
 use Prim.Native.Nat.{ℕ, zero, suc, _+_, _-_, _*_, _/_, _%_}
 use mathlib.Core.Bool.{Bool, cond, not, _||_}
 use mathlib.Core.List.{List, [], _∷_, _++_}
+use mathlib.Core.Option.{Option, none}
 use lib.Dec.{leb, ltb, eqb}
 use lib.ListN.{length, getD, set, take, drop}
 use Rattle.rules.specs.Basics.{firstOf}
@@ -25,6 +27,8 @@ use Rattle.rules.specs.Adjustment.{compose}
 use Rattle.rules.specs.Sheet.{Setting, setting, lineWords, slotWords, fresh, lineCountOf, lengthOk}
 use Rattle.rules.specs.Refusals.{Answer, says, EditAnswer, asEdit, reporting, Outcome, judged, splice, linesRedone}
 use Rattle.rules.specs.Refusals.{editSlot, onSlot, readRows, settingAt, setUpAnswer, setUp}
+use Rattle.leaflet.specs.Reader.{faultIn, wordsIn}
+use Rattle.sheet.specs.Import.{replaceSlot, unlessFault}
 use Rattle.sheet.specs.declared.Clinic.{Clinic}
 use Rattle.sheet.specs.declared.SlotNumber.{SlotNumber}
 
@@ -37,6 +41,7 @@ pub record BookSlot : Type 0 where
 -- a call on a slot, with what it is told beside caller and slot
 pub data SlotCall : Type 0 where
   edits : (place deleted : ℕ) (inserted : List ℕ) → SlotCall
+  imports : (size : ℕ) (text : List ℕ) → SlotCall
   reads : SlotCall
 
 pub data Call : Type 0 where
@@ -56,7 +61,14 @@ numberOf (read-reply n ws) = n
 -- a call on a slot that one of the rows 1 to 3 refuses: "A refused read hands back an empty part."
 abbrev pub refusal : SlotCall → Answer → Reply
 refusal (edits place deleted inserted) a = edit-reply (asEdit a)
+refusal (imports size text) a = edit-reply (asEdit a)
 refusal reads a = read-reply (a .number) []
+
+-- "17, which depends on the text alone": its place, where it is due
+abbrev pub faultOf : SlotCall → Option ℕ
+faultOf (edits place deleted inserted) = none
+faultOf (imports size text) = faultIn text
+faultOf reads = none
 
 -- a read of slot s by its own clinic: the slot's used line words
 abbrev pub readSlot : List ℕ → Reply
@@ -67,11 +79,13 @@ readSlot s =
 -- a call on slot s by its own clinic
 abbrev pub inSlot : SlotCall → List ℕ → Outcome Reply
 inSlot (edits place deleted inserted) s = let o = editSlot s place deleted inserted in (edit-reply (o .0), o .1)
+inSlot (imports size text) s = let o = replaceSlot s (wordsIn size text) in (edit-reply (o .0), o .1)
 inSlot reads s = (readSlot s, s)
 
 abbrev pub step : Call → List ℕ → Outcome Reply
 step (call-set-up cs ms xs) ws = let o = setUp ws cs ms xs in (set-up-reply (o .0), o .1)
-step (call-on c k q) ws = onSlot (refusal q) ws (c .0) (k .0) (inSlot q)
+step (call-on c k q) ws =
+    unlessFault edit-reply (faultOf q) ws (onSlot (refusal q) ws (c .0) (k .0) (inSlot q))
 
 -- The book ----------------------------------------------------------------------------------------------------------
 
@@ -147,14 +161,18 @@ bookEdit place deleted inserted s =
 abbrev pub bookLines : BookSlot → List ℕ
 bookLines s = lineWords 0 (compose (s .setting .measure) (s .setting .indent) (units (s .records)))
 
--- a call on a slot of the book by its own clinic. Read: "At 0 the line words .. come with it"
+-- a call on a slot of the book by its own clinic. An import "is its edit, on the sheet and in the book": the one at
+-- place 0 that deletes all the book's records of the slot. Read: "At 0 the line words .. come with it"
 abbrev pub inBook : SlotCall → BookSlot → Reply × BookSlot
 inBook (edits place deleted inserted) s = let o = bookEdit place deleted inserted s in (edit-reply (o .0), o .1)
+inBook (imports size text) s =
+    let o = bookEdit 0 (length (s .records)) (wordsIn size text) s in (edit-reply (o .0), o .1)
 inBook reads s = (read-reply 0 (bookLines s), s)
 
 abbrev pub bookStep : ℕ → Call → List BookSlot → Reply × List BookSlot
 bookStep n (call-set-up cs ms xs) b = let o = bookSetUp n cs ms xs b in (set-up-reply (o .0), o .1)
-bookStep n (call-on c k q) b = onBookSlot (refusal q) n (c .0) (k .0) (inBook q) b
+bookStep n (call-on c k q) b =
+    unlessFault edit-reply (faultOf q) b (onBookSlot (refusal q) n (c .0) (k .0) (inBook q) b)
 
 -- The book's words --------------------------------------------------------------------------------------------------
 

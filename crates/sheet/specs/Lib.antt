@@ -1,4 +1,6 @@
--- The book of demand 3, what the claims say of sheets, and what the functions of set-up ask of their lists.
+-- An import on a sheet, the book of demand 3, what the claims say of sheets, and what the functions of set-up ask of
+-- their lists.
+pub mod Import
 pub mod Book
 pub mod Meanings
 pub mod Lists

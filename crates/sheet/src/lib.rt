@@ -1,6 +1,9 @@
 // The calls on a sheet, and ruby place.
+mod importing;
 mod setting;
 
+pub use crate::importing::ImportAnswer;
+pub use crate::importing::import;
 pub use crate::setting::set_up;
 pub use rules::RubyPlace;
 pub use rules::ruby_place;
