@@ -34,6 +34,6 @@ fn the_c_snippet_compiles_and_runs() {
     let ran = Command::new(&program).output().expect("the program runs");
     assert!(ran.status.success(), "{}", ran.status);
     let wrote = String::from_utf8(ran.stdout).expect("text");
-    let expected = "answer 0, 2 lines, 2 of them composed anew\nthe first ends at 440\nanother clinic: 3\n";
+    let expected = "answer 0, 2 lines, 2 of them composed anew\nanswer 0, the first line ends at 440\nanother clinic: 3\n";
     assert_eq!(wrote, expected);
 }
