@@ -1,5 +1,5 @@
-// Three clinics share a sheet: they import a dose note and an aftercare note with ruby, are refused some calls, and one
-// changes its dose.
+// Three clinics share a sheet: imports of a dose note and an aftercare note with ruby, calls that are refused, and a
+// changed dose.
 mod columns;
 mod lines;
 mod markup;
@@ -21,6 +21,7 @@ use texts::CARE_NOTE;
 use texts::DOSE_NOTE;
 use texts::LONG_WORD;
 use texts::OPEN_NOTE;
+ghost use Prim.Native.Nat.{_<_, _≤_};
 
 // Every character is of this size.
 const SIZE: u32 = 80;
@@ -41,8 +42,9 @@ fn import(sheet: &mut [u32], caller: Clinic, slot: SlotNumber, text: &[u8]) {
     print_import(sheet::import(sheet, caller, slot, SIZE, text), text);
 }
 
-// Line 1 would have room for 1, but not for 10%, and line 2 for 500, but not for 500mg: neither is ever broken, so the
-// lines end before them, and are stretched. Line 3 shrinks the space after its comma.
+// Line 1 would have room for 1, but not for 10%, and line 2 for 500, but not for 500mg. To an import % is a Western
+// character, as digits and letters are, and no line breaks between two of them: lines 1 and 2 end before, and are
+// stretched. Line 3 shrinks the space after its comma.
 fn import_dose_note(sheet: &mut [u32]) {
     say(b"\nClinic 7 imports a dose note into slot 0. A strength keeps its %, a dose its unit.\n");
     import(sheet, Clinic(7), SlotNumber(0), &DOSE_NOTE);
@@ -50,30 +52,46 @@ fn import_dose_note(sheet: &mut [u32]) {
     print_slot(sheet, Clinic(7), SlotNumber(0), &DOSE_NOTE);
 }
 
-// Line 0 has the wider row below, so that its ruby is spread over it; line 2 has it above, so that the space on both
-// sides of the character is the ruby's.
+// In line 0 the base is the wider row, and its ruby is spread over it. In line 2 the ruby is, and its base stands
+// under the middle of it.
 fn import_care_note(sheet: &mut [u32]) {
     say(b"\nClinic 8 imports an aftercare note into slot 1.\n");
     import(sheet, Clinic(8), SlotNumber(1), &CARE_NOTE);
-    say(b"Clinic 8 reads slot 1. Ruby stands over the characters that it belongs to.\n");
+    say(b"Clinic 8 reads slot 1. Ruby is half as wide, and stands where its own x is.\n");
     print_slot(sheet, Clinic(8), SlotNumber(1), &CARE_NOTE);
 }
 
+// A text with a fault changes nothing.
 fn try_refused_import(sheet: &mut [u32]) {
     say(b"\nClinic 8 imports a text into slot 1 whose rt has no end tag.\n");
     import(sheet, Clinic(8), SlotNumber(1), &OPEN_NOTE);
-    say(b"Clinic 8 reads slot 1, which is as before.\n");
+    say(b"Clinic 8 reads slot 1: it is as before.\n");
     print_read(sheet, Clinic(8), SlotNumber(1));
 }
 
-// Puts 250 for records 17 to 19 of slot 0.
+// Record `i` of a dose: a digit, half as wide as its size.
+fn put_digit(words: &mut [u32; 18], i: usize, digit: u32)
+    requires { ⌜ (i < 3) × (digit ≤ 9) ⌝ }
+{
+    let at = 6 * i;
+    words[at] = 0x30 + digit;
+    words[at + 1] = 27;
+    words[at + 2] = SIZE;
+    words[at + 3] = SIZE / 2;
+}
+
+// Puts three records for 17 to 19 of slot 0.
+fn replace_dose(sheet: &mut [u32], caller: Clinic, words: &[u32; 18]) {
+    let dose: &[u32] = words;
+    print_edit(sheet::edit(sheet, caller, SlotNumber(0), 17, 3, dose));
+}
+
 fn edit_dose(sheet: &mut [u32], caller: Clinic) {
-    let dose = [
-        0x32, 27, SIZE, SIZE / 2, 0, 0, // 2
-        0x35, 27, SIZE, SIZE / 2, 0, 0, // 5
-        0x30, 27, SIZE, SIZE / 2, 0, 0, // 0
-    ];
-    print_edit(sheet::edit(sheet, caller, SlotNumber(0), 17, 3, &dose));
+    let mut words = [0u32; 18];
+    put_digit(&mut words, 0, 2);
+    put_digit(&mut words, 1, 5);
+    put_digit(&mut words, 2, 0);
+    replace_dose(sheet, caller, &words);
 }
 
 // Inserts a comma of a class and an advance before record 27 of slot 0.
@@ -103,7 +121,7 @@ fn try_reads(sheet: &[u32]) {
 
 // The dose stands in line 3, and is as wide as before: lines 2 and 3 are composed anew, and line 4 stands again.
 fn change_dose(sheet: &mut [u32]) {
-    say(b"\nClinic 7 changes the dose in slot 0 to 250: records 17 to 19 go out, and three come in.\n");
+    say(b"\nClinic 7 changes the dose in slot 0 to 250: records 17 to 19 make way for three.\n");
     edit_dose(sheet, Clinic(7));
     say(b"Clinic 7 reads slot 0.\n");
     print_slot(sheet, Clinic(7), SlotNumber(0), &DOSE_NOTE);

@@ -1,5 +1,5 @@
-// A slot's words by name (document 01, "The sheet"). To the prover they are any numbers: those that are counted or added
-// up are held to document 01's limits here.
+// A slot's words by name (document 01, "The sheet"). To the prover they are any numbers, so those that are counted or
+// added up are held to document 01's limits here.
 use sheet::SlotNumber;
 ghost use Prim.Native.Nat.{_≤_};
 

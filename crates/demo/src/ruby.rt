@@ -1,5 +1,5 @@
-// The row of ruby over a line. The sheet says where each ruby character stands, and the markup that was imported which it
-// is: a sheet keeps only how many there are.
+// The row of ruby over a line. The sheet says where each ruby character stands, the markup that was imported which one
+// it is: a sheet keeps only how many there are.
 use crate::columns::column_of;
 use crate::columns::fill;
 use crate::markup::character_end;
@@ -59,7 +59,8 @@ fn ruby_column(slot: &[u32], first: u32, k: u32) -> u32
     column_of(group_start(slot, first, base) as u64 + place.offset as u64)
 }
 
-// The ruby of the group that starts at record `first`, where `free` is the first free column. Gives the next free one.
+// The ruby of the group that starts at record `first`: an import numbers groups as their rts come. `free` is the first
+// free column, and so is what it gives.
 fn print_ruby(slot: &[u32], text: &[u8], first: u32, free: u32) -> u32
     requires { ⌜ first < 256 ⌝ }
 {
@@ -79,11 +80,11 @@ fn print_ruby(slot: &[u32], text: &[u8], first: u32, free: u32) -> u32
     next
 }
 
-// A group of a line starts at record `i`. No line ends within a group.
-fn starts_group(slot: &[u32], line: u32, i: u32) -> bool
-    requires { ⌜ line ≤ i ⌝ }
+// Whether record `i` is the first of a group, in the line that starts at record `first`: a line has its groups whole.
+fn starts_group(slot: &[u32], first: u32, i: u32) -> bool
+    requires { ⌜ first ≤ i ⌝ }
 {
-    if i == line {
+    if i == first {
         group(slot, i) != 0
     } else {
         (group(slot, i) != 0) & (group(slot, i) != group(slot, i - 1))
@@ -102,7 +103,7 @@ pub(crate) fn has_ruby(slot: &[u32], first: u32, end: u32) -> bool {
     false
 }
 
-// The ruby of a line's records, by the markup that they came from.
+// The ruby of a line's records, from the second column on.
 pub(crate) fn print_ruby_row(slot: &[u32], text: &[u8], first: u32, end: u32)
     requires { ⌜ end ≤ 256 ⌝ }
 {

@@ -1,5 +1,5 @@
-// The texts that clinics import: UTF-8 with the elements ruby, rt and rp. A byte string takes bytes above 127 as escapes
-// only, so that each has a comment that says the same, line for line.
+// The texts that clinics import: UTF-8 with the elements ruby, rt and rp. A byte string takes bytes above 127 only as
+// escapes, so over each stands what it says, line for line.
 
 // A dose note.
 //     食後に
@@ -16,7 +16,7 @@ pub(crate) const DOSE_NOTE: [u8; 92] = *b"\
     \xE6\xB0\xB4\xE3\x81\xA7\xE6\x9C\x8D\xE7\x94\xA8\xE3\x81\x97\xE3\x81\xA6\
     \xE3\x81\x8F\xE3\x81\xA0\xE3\x81\x95\xE3\x81\x84\xE3\x80\x82";
 
-// An aftercare note, with ruby over two of its words. A browser without ruby would show the rp.
+// An aftercare note, with ruby over two of its words. The second has rp, which browsers without ruby show.
 //     <ruby>患部<rt>かんぶ</rt></ruby>
 //     を清潔に保ち、
 //     シャワーの後に
@@ -31,14 +31,14 @@ pub(crate) const CARE_NOTE: [u8; 164] = *b"\
     \xE3\x82\x92\xE5\xA1\x97\xE3\x81\xA3\xE3\x81\xA6\
     \xE3\x81\x8F\xE3\x81\xA0\xE3\x81\x95\xE3\x81\x84\xE3\x80\x82";
 
-// The same note begun, but its rt has no end tag.
+// How that note begins, but its rt has no end tag.
 //     <ruby>患部<rt>かんぶ</ruby>
 //     を清潔に
 pub(crate) const OPEN_NOTE: [u8; 44] = *b"\
     <ruby>\xE6\x82\xA3\xE9\x83\xA8<rt>\xE3\x81\x8B\xE3\x82\x93\xE3\x81\xB6</ruby>\
     \xE3\x82\x92\xE6\xB8\x85\xE6\xBD\x94\xE3\x81\xAB";
 
-// A word of 13 letters between others.
+// A drug's name of thirteen letters, which no line may break.
 //     解熱に
 //     acetaminophen
 //     を

@@ -1,4 +1,4 @@
--- `demo::ruby::base_at` meets its contract: a group has 16 records at most, each of a limited advance. Assumes nothing.
+-- `demo::ruby::base_at` meets its contract: a group has 16 records at most, of limited advances. Assumes nothing.
 use Prim.Native.Nat.{_*_, _-_, _≤_}
 use borrow.Author.Needs.{needs}
 use Rattle.demo.proofs.ruby.base_at.Statement.{statement}
