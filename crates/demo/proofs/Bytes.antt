@@ -4,7 +4,7 @@ use mathlib.Core.Path.{_≡_}
 use mathlib.Core.List.{[], _∷_}
 use native.Mathlib.Omega.{arith}
 use borrow.Author.Tests.{lt-ltb, le-ltb}
-use Rattle.demo.specs.Utf8.{more, utf8}
+use Rattle.leaflet.specs.Utf8.{more, utf8}
 
 pub one-byte : (c : ℕ) → c < 128 → utf8 c ≡ c ∷ []
 unfolding utf8

@@ -1,70 +1,65 @@
-// From a text to the record words that an edit takes.
-use crate::texts::code_at;
-ghost use Prim.Native.Nat.{_≤_, _<_};
+// A slot's words by name (document 01, "The sheet"). To the prover they are any numbers, so those that are counted or
+// added up are held to document 01's limits here.
+use sheet::SlotNumber;
+ghost use Prim.Native.Nat.{_≤_};
 
-// Every character is of this size.
-pub(crate) const SIZE: u32 = 80;
-
-// The group and the ruby count of a text's records.
-pub(crate) struct Ruby {
-    pub(crate) group: u32,
-    pub(crate) count: u32,
-}
-
-pub(crate) const NO_RUBY: Ruby = Ruby { group: 0, count: 0 };
-
-// The class that a character gets by the published lists; % is set as a unit's sign, though Western text has it too. A
-// character of no list gets 0, which is no class, so that the sheet refuses its record.
-fn class_of(code: u32) -> u32 {
-    match code {
-        0x25 => 13, // %
-        _ => lists::class_of(code),
+// The words of a slot, or none past the sheet's end.
+pub(crate) fn slot_words(sheet: &[u32], slot: SlotNumber) -> &[u32] {
+    let start = 2824 * slot.0 as usize;
+    let end = start + 2824;
+    if end <= sheet.len() {
+        &sheet[start..end]
+    } else {
+        &sheet[0..0]
     }
 }
 
-// Half the size for brackets, middle dots, full stops and commas, as their classes ask. A hyphen could have any advance
-// up to the size, a digit or Latin letter up to twice it: they have half of it here.
-fn advance_of(class: u32) -> u32 {
-    match class {
-        1 | 2 | 3 | 5 | 6 | 7 | 27 => SIZE / 2,
-        _ => SIZE,
-    }
+// Word `at`, or 0 past the end.
+fn word(words: &[u32], at: usize) -> u32 {
+    if at < words.len() { words[at] } else { 0 }
 }
 
-// Writes record `i`.
-fn put_record(words: &mut [u32; 384], i: usize, code: u32, ruby: Ruby)
-    requires { ⌜ i < 64 ⌝ }
+// A word, or 0 if it is over its limit.
+pub(crate) fn limited(word: u32, limit: u32) -> u32
+    ensures { λ r. ⌜ r ≤ limit ⌝ }
 {
-    let class = class_of(code);
-    let at = 6 * i;
-    words[at] = code;
-    words[at + 1] = class;
-    words[at + 2] = SIZE;
-    words[at + 3] = advance_of(class);
-    words[at + 4] = ruby.group;
-    words[at + 5] = ruby.count;
+    if word <= limit { word } else { 0 }
 }
 
-// Writes a text's records, the first 64 at most, and answers how many words they take.
-pub(crate) fn put_records(text: &[u64], ruby: Ruby, words: &mut [u32; 384]) -> usize
-    ensures { λ r. ⌜ r ≤ 384 ⌝ }
+pub(crate) fn record_count(slot: &[u32]) -> u32
+    ensures { λ r. ⌜ r ≤ 256 ⌝ }
 {
-    let mut i = 0;
-    while i < 64 {
-        let code = code_at(text, i);
-        if code == 0 {
-            break;
-        }
-        put_record(words, i, code, ruby);
-        i += 1;
-    }
-    6 * i
+    limited(word(slot, 3), 256)
 }
 
-// The first `n` words.
-pub(crate) fn first_words(words: &[u32; 384], n: usize) -> &[u32]
-    requires { ⌜ n ≤ 384 ⌝ }
+// Record `i` has six words from word 8 on: code point, class, size, advance, group and ruby count.
+pub(crate) fn code(slot: &[u32], i: u32) -> u32 {
+    word(slot, 8 + 6 * i as usize)
+}
+
+pub(crate) fn size(slot: &[u32], i: u32) -> u32
+    ensures { λ r. ⌜ r ≤ 4000 ⌝ }
 {
-    let all: &[u32] = words;
-    &all[0..n]
+    limited(word(slot, 10 + 6 * i as usize), 4000)
+}
+
+pub(crate) fn advance(slot: &[u32], i: u32) -> u32
+    ensures { λ r. ⌜ r ≤ 8000 ⌝ }
+{
+    limited(word(slot, 11 + 6 * i as usize), 8000)
+}
+
+pub(crate) fn group(slot: &[u32], i: u32) -> u32 {
+    word(slot, 12 + 6 * i as usize)
+}
+
+pub(crate) fn ruby_count(slot: &[u32], i: u32) -> u32
+    ensures { λ r. ⌜ r ≤ 64 ⌝ }
+{
+    limited(word(slot, 13 + 6 * i as usize), 64)
+}
+
+// The x of record `i`, the first of its place's two words.
+pub(crate) fn position(slot: &[u32], i: u32) -> u32 {
+    word(slot, 1544 + 2 * i as usize)
 }

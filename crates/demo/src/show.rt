@@ -1,10 +1,9 @@
 // What the program writes: texts, answers and lines, in words.
-use crate::texts::code_at;
 use crate::utf8::encode;
 use libc::STDOUT_FILENO;
 use sheet::Answer;
 use sheet::EditAnswer;
-use sheet::RubyPlace;
+use sheet::ImportAnswer;
 
 pub(crate) fn say(text: &[u8]) {
     io::write_all(STDOUT_FILENO, text);
@@ -30,21 +29,6 @@ pub(crate) fn print_code(code: u32) {
     say(&bytes[..count]);
 }
 
-// A text of 64 characters at most, on a line of its own.
-pub(crate) fn print_text(text: &[u64]) {
-    say(b"  ");
-    let mut i = 0;
-    while i < 64 {
-        let code = code_at(text, i);
-        if code == 0 {
-            break;
-        }
-        print_code(code);
-        i += 1;
-    }
-    say(b"\n");
-}
-
 // Why a call is refused, by its number.
 fn print_reason(number: u32) {
     match number {
@@ -60,6 +44,7 @@ fn print_reason(number: u32) {
         10 => say(b"a run without a break is wider than the measure"),
         11 => say(b"a clinic, measure or indent is out of limits"),
         12 => say(b"a character is not in the published list of its class"),
+        17 => say(b"the text is no leaflet from this byte on"),
         _ => say(b"there is no such number"),
     }
 }
@@ -72,10 +57,10 @@ pub(crate) fn print_refusal(number: u32) {
     say(b".");
 }
 
-fn print_refused_at(number: u32, place: u32) {
+fn print_refused_at(number: u32, place: usize) {
     print_refusal(number);
     say(b" Place ");
-    print_number(place);
+    print_count(place);
     say(b".\n");
 }
 
@@ -86,43 +71,44 @@ pub(crate) fn print_set_up(answer: Answer) {
         print_number(answer.place);
         say(b" slots.\n");
     } else {
-        print_refused_at(answer.number, answer.place);
+        print_refused_at(answer.number, answer.place as usize);
     }
+}
+
+fn print_composed(lines: usize, redone: u32) {
+    say(b"  accepted: ");
+    print_count(lines);
+    say(b" lines, ");
+    print_number(redone);
+    say(b" of them composed anew.\n");
 }
 
 // What an edit answered: how many lines there are and how many of them it composed anew, or a refusal and its place.
 pub(crate) fn print_edit(answer: EditAnswer) {
     if answer.number == 0 {
-        say(b"  accepted: ");
-        print_number(answer.place);
-        say(b" lines, ");
-        print_number(answer.redone);
-        say(b" of them composed anew.\n");
+        print_composed(answer.place as usize, answer.redone);
     } else {
-        print_refused_at(answer.number, answer.place);
+        print_refused_at(answer.number, answer.place as usize);
     }
 }
 
-// Where ruby place puts a ruby character, from the start of its group.
-fn print_ruby_place(code: u32, place: RubyPlace) {
-    if place.number == 0 {
-        say(b"  ");
-        print_code(code);
-        say(b" at ");
-        print_number(place.offset);
-    } else {
-        print_refusal(place.number);
+// What a text says from a byte on.
+fn print_rest(text: &[u8], from: usize) {
+    if from <= text.len() {
+        say(b"  from there: ");
+        say(&text[from..]);
+        say(b"\n");
     }
 }
 
-// Where the ruby characters over a base of that advance stand.
-pub(crate) fn print_ruby(base_advance: u32, count: u32, size: u32, text: &[u64]) {
-    say(b"  ruby, from the start of the group:");
-    let mut k = 0;
-    while k < count {
-        let place = sheet::ruby_place(base_advance, count, size, k);
-        print_ruby_place(code_at(text, k as usize), place);
-        k += 1;
+// What an import answered: as an edit, or 17 and the byte from which the text is shown again.
+pub(crate) fn print_import(answer: ImportAnswer, text: &[u8]) {
+    if answer.number == 0 {
+        print_composed(answer.place, answer.redone);
+        return;
     }
-    say(b"\n");
+    print_refused_at(answer.number, answer.place);
+    if answer.number == 17 {
+        print_rest(text, answer.place);
+    }
 }

@@ -1,72 +1,48 @@
-// The texts, as code points of 16 bits, four to a word. The last word is filled up with zeros.
+// The texts that clinics import: UTF-8 with the elements ruby, rt and rp. A byte string takes bytes above 127 only as
+// escapes, so over each stands what it says, line for line.
 
-pub(crate) const DOSE_NOTE: [u64; 9] = [
-    0x98DF_5F8C_306B_300C, // 食後に「
-    0x30A2_30B9_30D4_30EA, // アスピリ
-    0x30F3_300D_6563_0031, // ン」散1
-    0x0030_0025_3092_4E00, // 0%を一
-    0x56DE_0035_0030_0030, // 回500
-    0x006D_0067_305A_3064, // mgずつ
-    0x3001_6C34_3067_670D, // 、水で服
-    0x7528_3057_3066_304F, // 用してく
-    0x3060_3055_3044_3002, // ださい。
-];
+// A dose note.
+//     食後に
+//     「アスピリン」
+//     散10%を
+//     一回500mgずつ、
+//     水で服用して
+//     ください。
+pub(crate) const DOSE_NOTE: [u8; 92] = *b"\
+    \xE9\xA3\x9F\xE5\xBE\x8C\xE3\x81\xAB\
+    \xE3\x80\x8C\xE3\x82\xA2\xE3\x82\xB9\xE3\x83\x94\xE3\x83\xAA\xE3\x83\xB3\xE3\x80\x8D\
+    \xE6\x95\xA310%\xE3\x82\x92\
+    \xE4\xB8\x80\xE5\x9B\x9E500mg\xE3\x81\x9A\xE3\x81\xA4\xE3\x80\x81\
+    \xE6\xB0\xB4\xE3\x81\xA7\xE6\x9C\x8D\xE7\x94\xA8\xE3\x81\x97\xE3\x81\xA6\
+    \xE3\x81\x8F\xE3\x81\xA0\xE3\x81\x95\xE3\x81\x84\xE3\x80\x82";
 
-pub(crate) const NEW_DOSE: [u64; 1] = [
-    0x0032_0035_0030_0000, // 250
-];
+// An aftercare note, with ruby over two of its words. The second has rp, which browsers without ruby show.
+//     <ruby>患部<rt>かんぶ</rt></ruby>
+//     を清潔に保ち、
+//     シャワーの後に
+//     <ruby>薬<rp>（</rp><rt>くすり</rt><rp>）</rp></ruby>
+//     を塗って
+//     ください。
+pub(crate) const CARE_NOTE: [u8; 164] = *b"\
+    <ruby>\xE6\x82\xA3\xE9\x83\xA8<rt>\xE3\x81\x8B\xE3\x82\x93\xE3\x81\xB6</rt></ruby>\
+    \xE3\x82\x92\xE6\xB8\x85\xE6\xBD\x94\xE3\x81\xAB\xE4\xBF\x9D\xE3\x81\xA1\xE3\x80\x81\
+    \xE3\x82\xB7\xE3\x83\xA3\xE3\x83\xAF\xE3\x83\xBC\xE3\x81\xAE\xE5\xBE\x8C\xE3\x81\xAB\
+    <ruby>\xE8\x96\xAC<rp>\xEF\xBC\x88</rp><rt>\xE3\x81\x8F\xE3\x81\x99\xE3\x82\x8A</rt><rp>\xEF\xBC\x89</rp></ruby>\
+    \xE3\x82\x92\xE5\xA1\x97\xE3\x81\xA3\xE3\x81\xA6\
+    \xE3\x81\x8F\xE3\x81\xA0\xE3\x81\x95\xE3\x81\x84\xE3\x80\x82";
 
-pub(crate) const CARE_NOTE: [u64; 7] = [
-    0x60A3_90E8_3092_6E05, // 患部を清
-    0x6F54_306B_4FDD_3061, // 潔に保ち
-    0x3001_30B7_30E3_30EF, // 、シャワ
-    0x30FC_306E_5F8C_306B, // ーの後に
-    0x85AC_3092_5857_3063, // 薬を塗っ
-    0x3066_304F_3060_3055, // てくださ
-    0x3044_3002_0000_0000, // い。
-];
+// How that note begins, but its rt has no end tag.
+//     <ruby>患部<rt>かんぶ</ruby>
+//     を清潔に
+pub(crate) const OPEN_NOTE: [u8; 44] = *b"\
+    <ruby>\xE6\x82\xA3\xE9\x83\xA8<rt>\xE3\x81\x8B\xE3\x82\x93\xE3\x81\xB6</ruby>\
+    \xE3\x82\x92\xE6\xB8\x85\xE6\xBD\x94\xE3\x81\xAB";
 
-pub(crate) const SORE_PART: [u64; 1] = [
-    0x60A3_90E8_0000_0000, // 患部
-];
-
-pub(crate) const SORE_PART_RUBY: [u64; 1] = [
-    0x304B_3093_3076_0000, // かんぶ
-];
-
-pub(crate) const MEDICINE: [u64; 1] = [
-    0x85AC_0000_0000_0000, // 薬
-];
-
-pub(crate) const MEDICINE_RUBY: [u64; 1] = [
-    0x304F_3059_308A_0000, // くすり
-];
-
-pub(crate) const LONG_WORD: [u64; 5] = [
-    0x89E3_71B1_306B_0061, // 解熱にa
-    0x0063_0065_0074_0061, // ceta
-    0x006D_0069_006E_006F, // mino
-    0x0070_0068_0065_006E, // phen
-    0x3092_0000_0000_0000, // を
-];
-
-// One of the four code points in a word.
-fn quarter(word: u64, k: usize) -> u32 {
-    let last = match k {
-        0 => word / 0x1_0000_0000_0000,
-        1 => word / 0x1_0000_0000,
-        2 => word / 0x1_0000,
-        _ => word,
-    };
-    (last % 0x1_0000) as u32
-}
-
-// Code point `i` of a text, or 0 past its end.
-pub(crate) fn code_at(text: &[u64], i: usize) -> u32 {
-    let at = i / 4;
-    if at < text.len() {
-        quarter(text[at], i % 4)
-    } else {
-        0
-    }
-}
+// A drug's name of thirteen letters, which no line may break.
+//     解熱に
+//     acetaminophen
+//     を
+pub(crate) const LONG_WORD: [u8; 25] = *b"\
+    \xE8\xA7\xA3\xE7\x86\xB1\xE3\x81\xAB\
+    acetaminophen\
+    \xE3\x82\x92";

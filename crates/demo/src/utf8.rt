@@ -2,7 +2,7 @@
 ghost use mathlib.Core.Path.{_≡_};
 ghost use Prim.Native.Nat.{_≤_};
 ghost use Rattle.demo.specs.Utf8.{Encodes};
-ghost use Rattle.demo.specs.Utf8.{more as moreOf};
+ghost use Rattle.leaflet.specs.Utf8.{more as moreOf};
 
 // A character's bytes, and how many of the four there are.
 pub(crate) struct Character {

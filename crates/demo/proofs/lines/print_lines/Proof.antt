@@ -5,10 +5,10 @@ use Rattle.demo.proofs.lines.print_lines.Statement.{statement}
 use Rattle.demo.proofs.lines.print_lines.Tie as tie
 
 abbrev Inv-loop : tie.InvT-loop
-Inv-loop slot lines count j₀ j = Unit
+Inv-loop slot text lines count j₀ j = Unit
 
 abbrev μ-loop : tie.MeasureT-loop
-μ-loop slot lines count j₀ j = count - j
+μ-loop slot text lines count j₀ j = count - j
 
 loop-holds : tie.Need-loop-holds Inv-loop μ-loop
 loop-holds c = search needs

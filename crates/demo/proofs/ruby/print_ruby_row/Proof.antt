@@ -1,14 +1,14 @@
--- `demo::show::print_text` is safe and ends: the measure is what is left of 64 characters. Assumes nothing.
-use Prim.Native.Nat.{_-_}
+-- `demo::ruby::print_ruby_row` is safe and ends: the measure is what is left of the line's records. Assumes nothing.
+use Prim.Native.Nat.{_-_, _≤_}
 use borrow.Author.Needs.{needs}
-use Rattle.demo.proofs.show.print_text.Statement.{statement}
-use Rattle.demo.proofs.show.print_text.Tie as tie
+use Rattle.demo.proofs.ruby.print_ruby_row.Statement.{statement}
+use Rattle.demo.proofs.ruby.print_ruby_row.Tie as tie
 
 abbrev Inv-loop : tie.InvT-loop
-Inv-loop text i₀ t5 i = Unit
+Inv-loop slot text first end i₀ next₀ t8 i next = first ≤ i
 
 abbrev μ-loop : tie.MeasureT-loop
-μ-loop text i₀ t5 i = 64 - i
+μ-loop slot text first end i₀ next₀ t8 i next = end - i
 
 slice-aggregate-say : tie.Need-slice-aggregate-say Inv-loop μ-loop
 slice-aggregate-say c = search needs
@@ -19,11 +19,11 @@ say-requires c κs = search needs
 loop-holds : tie.Need-loop-holds Inv-loop μ-loop
 loop-holds c = search needs
 
-code-at-requires : tie.Need-code-at-requires Inv-loop μ-loop
-code-at-requires c κs = search needs
+starts-group-requires : tie.Need-starts-group-requires Inv-loop μ-loop
+starts-group-requires c κs = search needs
 
-print-code-requires : tie.Need-print-code-requires Inv-loop μ-loop
-print-code-requires c κs = search needs
+print-ruby-requires : tie.Need-print-ruby-requires Inv-loop μ-loop
+print-ruby-requires c κs = search needs
 
 add-i : tie.Need-add-i Inv-loop μ-loop
 add-i c = search needs
@@ -43,8 +43,8 @@ say-requires-2 c κs = search needs
 returns : tie.Need-returns Inv-loop μ-loop
 returns c = search needs
 
-pub print-text-spec : {M : Type 1} → statement M
-print-text-spec =
+pub print-ruby-row-spec : {M : Type 1} → statement M
+print-ruby-row-spec =
     tie.close
     (tie.spec
     Inv-loop
@@ -52,8 +52,8 @@ print-text-spec =
     slice-aggregate-say
     say-requires
     loop-holds
-    code-at-requires
-    print-code-requires
+    starts-group-requires
+    print-ruby-requires
     add-i
     loop-less
     loop-again

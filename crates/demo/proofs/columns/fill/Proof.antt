@@ -1,8 +1,8 @@
--- `demo::lines::fill` is safe and ends: the measure is what is left of the columns. Assumes nothing.
+-- `demo::columns::fill` is safe and ends: the measure is what is left of the columns. Assumes nothing.
 use Prim.Native.Nat.{_-_}
 use borrow.Author.Needs.{needs}
-use Rattle.demo.proofs.lines.fill.Statement.{statement}
-use Rattle.demo.proofs.lines.fill.Tie as tie
+use Rattle.demo.proofs.columns.fill.Statement.{statement}
+use Rattle.demo.proofs.columns.fill.Tie as tie
 
 abbrev Inv-loop : tie.InvT-loop
 Inv-loop from to column₀ t4 column = Unit
