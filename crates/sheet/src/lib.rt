@@ -89,7 +89,7 @@ pub fn edit(
     }
     let start = 2824 * slot.0 as usize;
     let end = start + 2824;
-    edit_slot(&mut sheet[start..end], place, deleted, inserted)
+    edit_slot(&mut sheet[start..end], place, deleted, &inserted[..])
 }
 
 // The number of a read: 0, or why it is refused.
