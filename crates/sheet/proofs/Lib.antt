@@ -24,6 +24,7 @@ pub mod Sequences
 pub mod Frame
 pub mod Changes
 pub mod Exactly
+pub mod ImportLaws
 pub mod Runs
 pub mod Told
 pub mod RunLaws

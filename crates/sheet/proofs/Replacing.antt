@@ -1,6 +1,6 @@
 -- Laws of the edit that an import is, which deletes all of a slot's records: as a program makes it, and that what is
 -- inserted may be cut one record past what a slot holds. Assumes nothing.
-use mathlib.Core.Path.{_≡_, refl, sym, ap, _∙_}
+use mathlib.Core.Path.{_≡_, sym, ap, _∙_}
 use Prim.Native.Nat.{ℕ, _+_, _-_, _*_, _/_, _%_, _<_}
 use native.Mathlib.Omega.{arith}
 use mathlib.Core.Bool.{true, false, cond}

@@ -10,8 +10,7 @@ use borrow.Author.Tests.{eqb-true}
 use Rattle.rules.specs.Sheet.{slotAt}
 use Rattle.rules.specs.Refusals.{Answer, Outcome, callRows, called, onSlot, setUpAnswer, setUp}
 use Rattle.rules.proofs.Facts.{tested}
-use Rattle.sheet.specs.Book.{SlotCall, Call, call-set-up, call-on, Reply, set-up-reply, edit-reply, refusal}
-use Rattle.sheet.specs.Book.{faultOf, inSlot, step}
+use Rattle.sheet.specs.Book.{SlotCall, Call, call-set-up, call-on, set-up-reply, refusal, faultOf, inSlot, step}
 use Rattle.sheet.specs.Book.{BookSlot, bookAt, bookSetUp, bookCallRows, bookCalled, onBookSlot, inBook, bookStep}
 use Rattle.sheet.specs.Book.{encodeSlot, encode, inWords}
 use Rattle.sheet.proofs.Tables.{same-number}
