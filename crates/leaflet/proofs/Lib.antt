@@ -15,6 +15,9 @@ pub mod Scans
 pub mod Places
 pub mod Ends
 pub mod Standings
+pub mod Answers
+pub mod OwnLists
+pub mod Imports
 pub mod Examples
 pub mod Claims
 pub mod Finds
