@@ -26,6 +26,8 @@ use Rattle.leaflet.proofs.Ends.{items-spelt, Told, accepted, refused, t
 use Rattle.leaflet.proofs.Answers.{first-told, words-told, parts-told, fault-told, none-told, some-told}
 use Rattle.leaflet.proofs.OwnLists.{some-list}
 use Rattle.leaflet.proofs.Imports.{records-listed, advance-fits, records-ok}
+use Rattle.leaflet.proofs.Worked.{bytesOf, right}
+use Rattle.leaflet.proofs.Examples.{texts, texts-hold, small, small-words, words-hold}
 use Rattle.leaflet.proofs.reader.read_leaflet.Statement as read-leaflet-contract
 use Rattle.leaflet.proofs.reader.read_leaflet.Met as read-leaflet-met
 
@@ -100,6 +102,13 @@ read-parts bs rs h = parts-told bs rs h
 -- the reader gives answer 17's place, and to no accepted text
 pub read-fault : (bs : List ℕ) (k : ℕ) → (read bs ≡ fault k) ↔ Fault bs k
 read-fault bs k = fault-told bs k
+
+-- the texts of request 05 come out as they were worked by hand, and the words of a small one
+pub worked : right texts ≡ true
+worked = texts-hold
+
+pub words-worked : wordsIn 80 (bytesOf small) ≡ small-words
+words-worked = words-hold
 
 -- The program ------------------------------------------------------------------------------------------------------
 

@@ -18,6 +18,7 @@ pub mod Standings
 pub mod Answers
 pub mod OwnLists
 pub mod Imports
+pub mod Worked
 pub mod Examples
 pub mod Claims
 pub mod Finds
