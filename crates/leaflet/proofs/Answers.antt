@@ -1,22 +1,23 @@
--- What the reader answers, by what a text is: its reading and its records' words, or answer 17's place. Assumes nothing.
+-- What the reader answers, by what a text is: its reading and its records' words, or answer 17's place. Assumes
+-- nothing.
 use mathlib.Core.Path.{_≡_, ap, _∙_}
 use Prim.Native.Nat.{ℕ}
 use mathlib.Core.Bool.{true}
 use mathlib.Core.List.{List, [], _∷_, _++_}
-use mathlib.Core.Option.{none, some}
 use mathlib.Core.Logic.{_↔_}
+use mathlib.Core.Option.{none, some}
 use Rattle.rules.specs.Records.{codeOk, recordWords}
 use Rattle.leaflet.specs.Utf8.{utf8}
 use Rattle.leaflet.specs.Items.{char, itemBytes}
 use Rattle.leaflet.specs.Contents.{Piece, Spells, Accepted, Part, reading}
-use Rattle.leaflet.specs.Imported.{importedRecords}
 use Rattle.leaflet.specs.Faults.{Fault}
+use Rattle.leaflet.specs.Imported.{importedRecords}
 use Rattle.leaflet.specs.Decoding.{found}
 use Rattle.leaflet.specs.Reader.{partsIn, parts, fault, faultIn, read, wordsIn}
 use Rattle.leaflet.proofs.Facts.{no-way}
-use Rattle.leaflet.proofs.Nexts.{firstChar, char-right, char-back}
 use Rattle.leaflet.proofs.Gathers.{parts-spelt}
-use Rattle.leaflet.proofs.Ends.{items-spelt, Told, accepted, refused, told, place-only}
+use Rattle.leaflet.proofs.Nexts.{firstChar, char-right, char-back}
+use Rattle.leaflet.proofs.Ends.{items-spelt, accepted, refused, told, place-only}
 
 -- table 3-7, as the reader goes by it, tells the bytes of scalar values
 pub first-told : (bs : List ℕ) (c : ℕ) (ds : List ℕ) →

@@ -6,8 +6,8 @@ use mathlib.Core.Path.{_≡_, sym, ap, _∙_}
 use Prim.Native.Nat.{ℕ}
 use mathlib.Core.Bool.{true}
 use mathlib.Core.List.{List, _++_}
-use mathlib.Core.Option.{none, some}
 use mathlib.Core.Logic.{_⊎_, inl, inr, _↔_}
+use mathlib.Core.Option.{none, some}
 use Rattle.lists.specs.Lists.{lists}
 use Rattle.lists.specs.Meanings.{Belongs}
 use Rattle.rules.specs.Records.{codeOk, sizeOk, advanceOk, recOk, recordWords}
@@ -19,10 +19,10 @@ use Rattle.leaflet.specs.Faults.{Fault, Standing}
 use Rattle.leaflet.specs.Imported.{advanceOf, importedRecords}
 use Rattle.leaflet.specs.Decoding.{found}
 use Rattle.leaflet.specs.Reader.{parts, fault, faultIn, read, wordsIn}
-use Rattle.leaflet.proofs.Nexts.{firstChar}
-use Rattle.leaflet.proofs.Standings.{standing}
 use Rattle.leaflet.proofs.Readings.{spell-same}
-use Rattle.leaflet.proofs.Ends.{items-spelt, Told, accepted, refused, told, place-only}
+use Rattle.leaflet.proofs.Nexts.{firstChar}
+use Rattle.leaflet.proofs.Ends.{items-spelt, accepted, refused, told, place-only}
+use Rattle.leaflet.proofs.Standings.{standing}
 use Rattle.leaflet.proofs.Answers.{first-told, words-told, parts-told, fault-told, none-told, some-told}
 use Rattle.leaflet.proofs.OwnLists.{some-list}
 use Rattle.leaflet.proofs.Imports.{records-listed, advance-fits, records-ok}

@@ -1,23 +1,19 @@
 -- Table 3-7 of Unicode 15.1 is `utf8` of the scalar values: `next` finds a character's code point in its bytes. Assumes
 -- nothing.
-use mathlib.Core.Path.{_≡_, refl, sym, ap, _∙_}
-use Prim.Native.Nat.{ℕ, _+_, _*_, _-_, _/_, _%_, _≤_, _<_}
+use mathlib.Core.Path.{_≡_, sym, _∙_}
+use Prim.Native.Nat.{ℕ, _+_, _*_, _-_, _/_, _≤_, _<_}
 use native.Mathlib.Omega.{arith}
-use mathlib.Core.Bool.{Bool, true, false, not, _&&_}
-use mathlib.Core.List.{List, [], _∷_, _++_}
+use mathlib.Core.Bool.{true, false, not, and-eq-true-iff}
+use mathlib.Core.List.{List, [], _∷_}
 use mathlib.Core.Logic.{_⊎_, inl, inr}
-use lib.Dec.{leb, ltb, eqb}
-use borrow.Author.Tests.{lt-ltb, le-ltb, le-leb, lt-leb, leb-true, leb-false, ltb-true, ltb-false, eqb-true, ne-eqb, not-true}
-use borrow.Author.Tests.{eqb-false}
+use lib.Dec.{leb, eqb}
+use borrow.Author.Tests.{lt-ltb, le-ltb, le-leb, lt-leb, leb-true, eqb-true, not-true}
 use Rattle.rules.specs.Basics.{within}
 use Rattle.rules.specs.Records.{codeOk}
 use Rattle.leaflet.specs.Utf8.{more, utf8}
-use Rattle.leaflet.specs.Items.{Item, char}
-use Rattle.leaflet.specs.Decoding.{Next, nothing, found, low, high, goesOn, second, two, three, four, nextChar}
-use Rattle.leaflet.proofs.Facts.{tested, both, true-false}
-
-pub ordered : (a b : ℕ) → (a < b) ⊎ (b ≤ a)
-ordered a b = elim (tested (ltb a b)) [ inl e ↦ inl (ltb-true a b e) | inr e ↦ inr (ltb-false a b e) ]
+use Rattle.leaflet.specs.Items.{char}
+use Rattle.leaflet.specs.Decoding.{found, low, high, two, three, four, nextChar}
+use Rattle.leaflet.proofs.Facts.{tested, ordered, true-false}
 
 pub inside : (lo hi x : ℕ) → lo ≤ x → x ≤ hi → within lo hi x ≡ true
 inside lo hi x h k = rw (le-leb lo x h, le-leb x hi k)
@@ -29,14 +25,14 @@ pub above : (lo hi x : ℕ) → hi < x → within lo hi x ≡ false
 above lo hi x h = elim (tested (leb lo x)) [ inl e ↦ rw (e, lt-leb x hi h) | inr e ↦ rw e ]
 
 -- the second byte's range
-pub low-under : (b x : ℕ) → (b ≡ 0xE0 → 0xA0 ≤ x) → (b ≡ 0xF0 → 0x90 ≤ x) → 0x80 ≤ x → low b ≤ x
+low-under : (b x : ℕ) → (b ≡ 0xE0 → 0xA0 ≤ x) → (b ≡ 0xF0 → 0x90 ≤ x) → 0x80 ≤ x → low b ≤ x
 low-under b x f g h =
     elim (tested (eqb b 0xE0)) [
       | inl e ↦ rw e (f (eqb-true b 0xE0 e))
       | inr e ↦ elim (tested (eqb b 0xF0)) [ inl d ↦ rw (e, d) (g (eqb-true b 0xF0 d)) | inr d ↦ rw (e, d) h ]
     ]
 
-pub under-high : (b x : ℕ) → (b ≡ 0xED → x ≤ 0x9F) → (b ≡ 0xF4 → x ≤ 0x8F) → x ≤ 0xBF → x ≤ high b
+under-high : (b x : ℕ) → (b ≡ 0xED → x ≤ 0x9F) → (b ≡ 0xF4 → x ≤ 0x8F) → x ≤ 0xBF → x ≤ high b
 under-high b x f g h =
     elim (tested (eqb b 0xED)) [
       | inl e ↦ rw e (f (eqb-true b 0xED e))
@@ -49,7 +45,7 @@ unfolding codeOk
 codeOk-sides c e = (leb-true c 0x10FFFF (p .0), sides)
   where
     p : (leb c 0x10FFFF ≡ true) × (not (within 0xD800 0xDFFF c) ≡ true)
-    p = both (leb c 0x10FFFF) (not (within 0xD800 0xDFFF c)) e
+    p = and-eq-true-iff (leb c 0x10FFFF) (not (within 0xD800 0xDFFF c)) .0 e
 
     sides : (c < 0xD800) ⊎ (0xDFFF < c)
     sides =

@@ -1,5 +1,5 @@
--- Request 05 as texts worked by hand: one table, with one claim over all rows that the checker computes, and the words of
--- a small text. What a row says is told in Worked.antt. Assumes nothing.
+-- Document 02, request 05, as texts worked by hand: one table, with one claim over all rows that the checker computes,
+-- and the words of a small text. What a row says is told in Worked.antt. Assumes nothing.
 use mathlib.Core.Path.{_≡_, refl}
 use Prim.Native.Nat.{ℕ}
 use Prim.Native.String.{String}

@@ -3,29 +3,26 @@
 use mathlib.Core.Path.{_≡_, refl}
 use Prim.Native.Nat.{ℕ, suc, _*_, _/_}
 use native.Mathlib.Omega.{arith}
-use mathlib.Core.Bool.{true, not, and-eq-true-iff}
+use mathlib.Core.Bool.{true, and-eq-true-iff}
 use mathlib.Core.List.{List, [], _∷_, _++_, map}
 use mathlib.Core.Logic.{inl, inr}
 use lib.Dec.{ltb}
 use borrow.Author.Tests.{le-leb, eq-eqb}
 use Rattle.lists.specs.Lists.{classOf}
 use Rattle.rules.specs.Basics.{whole}
-use Rattle.rules.specs.Records.{Rec, codeOk, sizeOk, AdvanceKind, half-size, to-size, to-twice, full-size, advanceKind}
+use Rattle.rules.specs.Records.{Rec, sizeOk, AdvanceKind, half-size, to-size, to-twice, full-size, advanceKind}
 use Rattle.rules.specs.Records.{advanceFits, advanceOk, groupOk, recOk}
 use Rattle.rules.specs.Meanings.{All, all-none, all-more, Listed}
 use Rattle.rules.proofs.Bounds.{SizeBounds, size-bounds}
-use Rattle.leaflet.specs.Contents.{bracket, text, plain, listed, Piece, single, group, Each, Proper, reading}
+use Rattle.leaflet.specs.Contents.{text, plain, listed, Piece, single, group, Each, Proper, reading}
 use Rattle.leaflet.specs.Imported.{asWord, advanceBy, advanceOf, recordOf, recordsAfter}
 use Rattle.leaflet.proofs.Facts.{tested}
+use Rattle.leaflet.proofs.Elements.{plain-element}
 use Rattle.leaflet.proofs.OwnLists.{own-list, own-class}
 
 plain-listed : (c : ℕ) → plain c ≡ true → listed c ≡ true
 unfolding plain
 plain-listed c e = and-eq-true-iff (text c) (listed c) .0 e .1
-
-plain-code : (c : ℕ) → plain c ≡ true → codeOk c ≡ true
-unfolding plain text
-plain-code c e = and-eq-true-iff (codeOk c) (not (bracket c)) .0 (and-eq-true-iff (text c) (listed c) .0 e .0) .0
 
 -- a group's number is never 0
 numbered : (k : ℕ) → asWord (suc k) ≡ 0 → ⊥
@@ -69,7 +66,7 @@ advance-fits c s h = kind-fits (advanceKind c) s (size-bounds s h)
 alone-ok : (s c : ℕ) → sizeOk s ≡ true → plain c ≡ true → recOk (recordOf s 0 0 c) ≡ true
 unfolding recOk groupOk
 alone-ok s c h e =
-    rw (plain-code c e, own-class c (plain-listed c e), h, advance-fits (classOf c) s h)
+    rw (plain-element c e .0, own-class c (plain-listed c e), h, advance-fits (classOf c) s h)
 
 pub records-ok : (s : ℕ) (ps : List Piece) → sizeOk s ≡ true → Proper ps →
     All (λ r. r .group ≡ 0 → recOk r ≡ true) (recordsAfter s 0 (reading ps))

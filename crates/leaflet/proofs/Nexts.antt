@@ -1,6 +1,7 @@
--- What `next` finds in a text is the item whose bytes the text starts with, and no such item escapes it. Assumes nothing.
+-- What `next` finds in a text is the item whose bytes the text starts with, and no such item escapes it. Assumes
+-- nothing.
 use mathlib.Core.Path.{_≡_, refl, _∙_}
-use Prim.Native.Nat.{ℕ, _+_, _<_}
+use Prim.Native.Nat.{ℕ, _<_}
 use native.Mathlib.Omega.{arith}
 use mathlib.Core.Bool.{true}
 use mathlib.Core.List.{List, [], _∷_, _++_}
@@ -12,12 +13,11 @@ use Rattle.rules.specs.Basics.{within}
 use Rattle.rules.specs.Records.{codeOk}
 use Rattle.leaflet.specs.Utf8.{utf8}
 use Rattle.leaflet.specs.Items.{Item, char, tag, Tag, tagBytes, itemBytes}
-use Rattle.leaflet.specs.Contents.{text}
 use Rattle.leaflet.specs.Faults.{Element}
 use Rattle.leaflet.specs.Decoding.{Next, nothing, found, nextChar}
 use Rattle.leaflet.specs.Decoding.{strip, tagOr, nextTag, allTags, next}
-use Rattle.leaflet.proofs.Facts.{tested}
-use Rattle.leaflet.proofs.Codes.{ordered, one-byte, two-bytes, three-bytes, four-bytes, codeOk-sides}
+use Rattle.leaflet.proofs.Facts.{tested, ordered}
+use Rattle.leaflet.proofs.Codes.{one-byte, two-bytes, three-bytes, four-bytes, codeOk-sides}
 use Rattle.leaflet.proofs.Codes.{back-two, back-three, back-four}
 use Rattle.leaflet.proofs.Rows.{Right, limits, one-right, two-right, three-right}
 use Rattle.leaflet.proofs.FourBytes.{four-right}
@@ -68,7 +68,8 @@ or-right t bs (some ds) n f r = (f, tt)
 tag-right : (ts : List Tag) (bs : List ℕ) → Right bs (nextTag ts bs)
 unfolding nextTag
 tag-right [] bs = tt
-tag-right (t ∷ ts) bs = or-right t bs (strip (tagBytes t) bs) (nextTag ts bs) (strip-follows (tagBytes t) bs) (tag-right ts bs)
+tag-right (t ∷ ts) bs =
+    or-right t bs (strip (tagBytes t) bs) (nextTag ts bs) (strip-follows (tagBytes t) bs) (tag-right ts bs)
 
 pub next-right : (bs : List ℕ) → Right bs (next bs)
 unfolding next

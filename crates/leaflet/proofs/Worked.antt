@@ -1,8 +1,8 @@
 -- How a worked text is written, and the test of a row. A text stands as it is read; its bytes are `utf8` of its code
 -- points.
 --
---   accepted     a text, and its parts: `each` character outside ruby elements, and a base text `under` a number of ruby
---                characters
+--   accepted     a text, and its parts: `each` character outside ruby elements, and a base text `under` a number of
+--                ruby characters
 --   refused      a text in two, before answer 17's place and from it on, and the place
 --   ill-formed   the same, with bytes from the place on
 --   computed     one name for all that a worked text opens
