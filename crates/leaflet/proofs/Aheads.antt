@@ -56,7 +56,7 @@ items-end s at h k =
     let d : drop at s ≡ [] = rw e (drop-length s) in
     rw d
 
--- what a program found at an offset, as an item and those after it ----------------------------------------------------
+-- what a program found at an offset, as an item and those after it ------------------------------------------------
 
 module _ {s : List ℕ} {at : ℕ} {r : Found} (f : FoundAt s at (next (drop at s)) r) where
   pub at-nothing : r ≡ Nothing → itemsFrom (drop at s) ≡ []

@@ -31,7 +31,7 @@ use Rattle.leaflet.proofs.Examples.{texts, texts-hold, small, small-wor
 use Rattle.leaflet.proofs.reader.read_leaflet.Statement as read-leaflet-contract
 use Rattle.leaflet.proofs.reader.read_leaflet.Met as read-leaflet-met
 
--- Characters -------------------------------------------------------------------------------------------------------
+-- Characters ------------------------------------------------------------------------------------------------------
 
 -- "Malformed UTF-8 is judged by the Unicode standard's table of well-formed sequences": the rows of table 3-7 find a
 -- code point exactly where a text starts with the bytes of a scalar value
@@ -43,7 +43,7 @@ table-right bs c ds = first-told bs c ds
 pub listed-means : (c : ℕ) → (listed c ≡ true) ↔ ((d : ℕ) × Belongs d c lists)
 listed-means c = some-list c
 
--- Texts ------------------------------------------------------------------------------------------------------------
+-- Texts -----------------------------------------------------------------------------------------------------------
 
 -- "one text has one reading": one content, and so one reading
 pub one-content : (bs : List ℕ) (ps qs : List Piece) → Spells bs ps → Spells bs qs → ps ≡ qs
@@ -67,7 +67,7 @@ one-place bs j k f g = place-only f g
 pub fault-stands : (bs : List ℕ) (k : ℕ) (f : Fault bs k) → Standing (f .passed) (f .last .left)
 fault-stands bs k f = standing (f .last)
 
--- Records ----------------------------------------------------------------------------------------------------------
+-- Records ---------------------------------------------------------------------------------------------------------
 
 -- each record of an accepted text stands in the list of its class, so answer 12 is never due for an import
 pub imported-listed : (s : ℕ) (bs : List ℕ) (ps : List Piece) → Spells bs ps →
@@ -84,7 +84,7 @@ pub imported-ok : (s : ℕ) (bs : List ℕ) (ps : List Piece) → sizeOk s ≡ t
     All (λ r. r .group ≡ 0 → recOk r ≡ true) (importedRecords s (reading ps))
 imported-ok s bs ps h k = records-ok s ps h (k .proper)
 
--- The reader -------------------------------------------------------------------------------------------------------
+-- The reader ------------------------------------------------------------------------------------------------------
 
 -- the reader gives an accepted text's reading
 pub read-accepted : (bs : List ℕ) (ps : List Piece) → Spells bs ps → read bs ≡ parts (reading ps)
@@ -110,7 +110,7 @@ worked = texts-hold
 pub words-worked : wordsIn 80 (bytesOf small) ≡ small-words
 words-worked = words-hold
 
--- The program ------------------------------------------------------------------------------------------------------
+-- The program -----------------------------------------------------------------------------------------------------
 
 -- its contract speaks of `faultIn` and `wordsIn`. `faultIn` is none of an accepted text, and else answer 17's place
 pub fault-none : (bs : List ℕ) → (faultIn bs ≡ none) ↔ Accepted bs

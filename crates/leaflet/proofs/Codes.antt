@@ -74,7 +74,7 @@ pub four-bytes : (c : ℕ) → 65536 ≤ c → utf8 c ≡ (240 + c / 262144) ∷
 unfolding utf8
 four-bytes c h = simp (le-ltb c 128 (omega arith), le-ltb c 2048 (omega arith), le-ltb c 65536 h)
 
--- From a code point to its bytes and back ---------------------------------------------------------------------------
+-- From a code point to its bytes and back -------------------------------------------------------------------------
 
 pub back-two : (c : ℕ) (ds : List ℕ) → 128 ≤ c → c < 2048 →
     nextChar (192 + c / 64) (more c ∷ ds) ≡ found (char c) ds

@@ -4,6 +4,6 @@ use Prim.Native.Nat.{ℕ}
 use native.Mathlib.Omega.{arith}
 pub use Rattle.rules.proofs.Facts.{tested, ordered, true-false, nil-cons, some-none}
 
--- two constructors are never equal
+-- where `cc` finds that two constructors would be equal, anything holds
 pub no-way : {A : Type 0} → _≡_ {A = ℕ} 0 1 → A
 no-way z = absurd (omega arith)

@@ -22,7 +22,7 @@ use Rattle.leaflet.proofs.Codes.{back-two, back-three, back-four}
 use Rattle.leaflet.proofs.Rows.{Right, limits, one-right, two-right, three-right}
 use Rattle.leaflet.proofs.FourBytes.{four-right}
 
--- What is found is right --------------------------------------------------------------------------------------------
+-- What is found is right ------------------------------------------------------------------------------------------
 
 pub char-right : (b : ℕ) (bs : List ℕ) → Right (b ∷ bs) (nextChar b bs)
 unfolding nextChar
@@ -77,7 +77,7 @@ next-right [] = tt
 next-right (b ∷ bs) =
     elim (tested (eqb b 60)) [ inl e ↦ rw e (tag-right allTags (b ∷ bs)) | inr e ↦ rw e (char-right b bs) ]
 
--- And all is found --------------------------------------------------------------------------------------------------
+-- And all is found ------------------------------------------------------------------------------------------------
 
 tag-found : (t : Tag) (ds : List ℕ) → next (tagBytes t ++ ds) ≡ found (tag t) ds
 unfolding next nextTag strip tagBytes

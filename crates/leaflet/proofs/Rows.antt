@@ -26,7 +26,7 @@ abbrev pub Right : List ℕ → Next → Type 0
 Right bs nothing = Unit {0}
 Right bs (found i ds) = (itemBytes i ++ ds ≡ bs) × Good i
 
--- Characters --------------------------------------------------------------------------------------------------------
+-- Characters ------------------------------------------------------------------------------------------------------
 
 pub limits : (lo hi x : ℕ) → within lo hi x ≡ true → (lo ≤ x) × (x ≤ hi)
 limits lo hi x e = (within-low lo hi x e, within-high lo hi x e)

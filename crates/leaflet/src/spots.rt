@@ -21,16 +21,22 @@ pub(crate) enum Tag {
 
 pub(crate) enum Spot {
     Outside,
+    // after <ruby>, and in the base text
     Opened,
     InBase,
+    // after the <rt> that no rp stands before, and in it
     BareOpened,
     InBare,
+    // in the rp before the rt, and after it
     InFirst,
     RtDue,
+    // after the <rt> that an rp stands before, in it, and after it
     FencedOpened,
     InFenced,
     RpDue,
+    // in the rp after the rt
     InLast,
+    // before </ruby>
     Closing,
 }
 
@@ -69,7 +75,7 @@ pub(crate) fn past_letter(q: Spot) -> Spot
     }
 }
 
-// A base or plain character is wanted.
+// Whether a character that stands here is a base or plain one.
 pub(crate) fn wants_plain(q: Spot) -> bool
     ensures { λ r. ⌜ r ≡ wantsPlain (spotOf q) ⌝ }
 {
@@ -89,6 +95,7 @@ pub(crate) fn wants_plain(q: Spot) -> bool
     }
 }
 
+// Whether a character may stand at a spot, if one may.
 fn is_allowed(q: Spot, c: u32) -> bool
     ensures { λ r. ⌜ r ≡ allowed (spotOf q) c ⌝ }
 {
@@ -110,6 +117,7 @@ pub(crate) fn after_char(q: Spot, c: u32) -> Step
     }
 }
 
+// A tag as a number: an enum's values are compared by their numbers.
 pub(crate) fn tag_number(t: Tag) -> u8
     ensures { λ r. ⌜ r ≡ tagNumber (tagOf t) ⌝ }
 {
@@ -134,6 +142,7 @@ fn only(t: Tag, u: Tag, p: Spot) -> Step
     }
 }
 
+// After a base text either of two tags may stand.
 fn rt_or_rp(t: Tag) -> Step
     ensures { λ r. ⌜ stepOf r ≡ find (tagOf t) (tags in-base) ⌝ }
 {
@@ -164,6 +173,7 @@ pub(crate) fn after_tag(q: Spot, t: Tag) -> Step
     }
 }
 
+// No ruby element is open.
 pub(crate) fn is_outside(q: Spot) -> bool
     ensures { λ r. ⌜ r ≡ isOutside (spotOf q) ⌝ }
 {
