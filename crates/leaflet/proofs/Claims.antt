@@ -1,7 +1,7 @@
 -- What is proved of leaflets (document 02, request 05), in reading order: of texts and answer 17's place, which speak of
 -- no reader; of the records that an import hands to edit; of the reader; and of the program. The definitions that the
--- statements name are those of specs/Utf8, Items, Contents, Faults and Imported and, from the reader on, `read`,
--- `faultIn` and `wordsIn` of specs/Reader. Assumes nothing.
+-- statements name are those of specs/Utf8, Items, Contents, Faults and Imported; `firstChar` of proofs/Nexts, the rows
+-- of Unicode's table; and, from the reader on, `read`, `faultIn` and `wordsIn` of specs/Reader. Assumes nothing.
 use mathlib.Core.Path.{_≡_, sym, ap, _∙_}
 use Prim.Native.Nat.{ℕ}
 use mathlib.Core.Bool.{true}
@@ -39,7 +39,7 @@ pub table-right : (bs : List ℕ) (c : ℕ) (ds : List ℕ) →
     (firstChar bs ≡ found (char c) ds) ↔ ((codeOk c ≡ true) × (utf8 c ++ ds ≡ bs))
 table-right bs c ds = first-told bs c ds
 
--- a character may stand as a base or plain one exactly where some class's list has it
+-- "in no list": `listed`, by which a base or plain character is judged, holds exactly where some class's list has it
 pub listed-means : (c : ℕ) → (listed c ≡ true) ↔ ((d : ℕ) × Belongs d c lists)
 listed-means c = some-list c
 

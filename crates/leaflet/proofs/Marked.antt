@@ -7,11 +7,9 @@ use lib.ListN.{length}
 use Rattle.rules.specs.Basics.{whole}
 use Rattle.leaflet.specs.Items.{Item, char, tag, Tag}
 use Rattle.leaflet.specs.Contents.{Over, bare, fenced, Piece, single, group, chars, spellOver, spell, count}
-use Rattle.leaflet.specs.Contents.{reading}
-use Rattle.leaflet.specs.Contents.{Each, Proper, ProperOver, plain, text}
+use Rattle.leaflet.specs.Contents.{reading, Each, Proper, ProperOver, plain, text}
 use Rattle.leaflet.specs.Imported.{asWord, recordOf, recordsAfter}
-use Rattle.leaflet.specs.Spots.{Spot, outside, in-base}
-use Rattle.leaflet.specs.Spots.{wantsPlain}
+use Rattle.leaflet.specs.Spots.{Spot, outside, in-base, wantsPlain}
 use Rattle.leaflet.specs.Written.{letterRun, rtAhead, written, kept, ifRuby}
 use Rattle.leaflet.proofs.Moves.{Move, single-char, open-ruby, first-base, more-base, open-bare, first-bare}
 use Rattle.leaflet.proofs.Moves.{more-bare, end-bare, open-first, more-first, end-first, open-fenced}

@@ -14,8 +14,7 @@ use Rattle.rules.specs.Records.{codeOk}
 use Rattle.leaflet.specs.Utf8.{utf8}
 use Rattle.leaflet.specs.Items.{Item, char, tag, Tag, tagBytes, itemBytes}
 use Rattle.leaflet.specs.Faults.{Element}
-use Rattle.leaflet.specs.Decoding.{Next, nothing, found, nextChar}
-use Rattle.leaflet.specs.Decoding.{strip, tagOr, nextTag, allTags, next}
+use Rattle.leaflet.specs.Decoding.{Next, nothing, found, nextChar, strip, tagOr, nextTag, allTags, next}
 use Rattle.leaflet.proofs.Facts.{tested, ordered}
 use Rattle.leaflet.proofs.Codes.{one-byte, two-bytes, three-bytes, four-bytes, codeOk-sides}
 use Rattle.leaflet.proofs.Codes.{back-two, back-three, back-four}

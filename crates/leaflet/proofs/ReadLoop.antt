@@ -14,8 +14,7 @@ use Rattle.leaflet.specs.Decoding.{next}
 use Rattle.leaflet.specs.Spots.{Spot, outside, wantsPlain, letters, step}
 use Rattle.leaflet.specs.Reader.{faultIn, itemsFrom}
 use Rattle.leaflet.specs.Written.{toward, ifRuby, rtAhead, kept, written}
-use Rattle.leaflet.specs.Values.{tagOf, spotOf, stepOf, wordsOf, FoundAt, Putting}
-use Rattle.leaflet.specs.Values.{put}
+use Rattle.leaflet.specs.Values.{tagOf, spotOf, stepOf, wordsOf, FoundAt, Putting, put}
 use Rattle.leaflet.specs.declared.spots.Tag.{Tag as TagValue}
 use Rattle.leaflet.specs.declared.spots.Spot.{Spot as SpotValue}
 use Rattle.leaflet.specs.declared.spots.Step.{Step}

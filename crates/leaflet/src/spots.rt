@@ -1,8 +1,7 @@
 // Where in the markup a reader stands, and where an item leads.
 ghost use mathlib.Core.Path.{_≡_};
 ghost use mathlib.Core.List.{[], _∷_};
-ghost use Rattle.leaflet.specs.Items.{char};
-ghost use Rattle.leaflet.specs.Items.{tag as tagItem};
+ghost use Rattle.leaflet.specs.Items.{char, tag as tagItem};
 ghost use Rattle.leaflet.specs.Spots.{in-base, letters, wantsPlain, allowed, tagNumber, find, tags, step};
 ghost use Rattle.leaflet.specs.Spots.{isOutside};
 ghost use Rattle.leaflet.specs.Values.{tagOf, spotOf, stepOf};
