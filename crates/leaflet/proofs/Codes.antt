@@ -58,6 +58,22 @@ codeOk-sides c e = (leb-true c 0x10FFFF (p .0), sides)
         ]
 
 -- the bytes of a code point, by their number
+pub data Width (c : ℕ) : Type 0 where
+  of-one : c < 128 → Width c
+  of-two : 128 ≤ c → c < 2048 → Width c
+  of-three : 2048 ≤ c → c < 65536 → Width c
+  of-four : 65536 ≤ c → Width c
+
+pub width : (c : ℕ) → Width c
+width c =
+    elim (ordered c 128) [
+      | inl k ↦ of-one k
+      | inr k ↦ elim (ordered c 2048) [
+        | inl l ↦ of-two k l
+        | inr l ↦ elim (ordered c 65536) [ inl m ↦ of-three l m | inr m ↦ of-four m ]
+      ]
+    ]
+
 pub one-byte : (c : ℕ) → c < 128 → utf8 c ≡ c ∷ []
 unfolding utf8
 one-byte c h = simp (lt-ltb c 128 h)
