@@ -2,20 +2,16 @@
 use mathlib.Core.Path.{_≡_, refl, sym, ap, _∙_}
 use Prim.Native.Nat.{ℕ, zero, suc, _+_, _-_, _≤_, _<_}
 use native.Mathlib.Omega.{arith}
-use mathlib.Core.List.{List, [], _∷_, _++_}
-use lib.Dec.{eqb}
+use mathlib.Core.List.{List, [], _∷_}
 use lib.ListN.{length, drop, length-drop}
 use lib.Seq.{drop-length}
-use Rattle.leaflet.specs.Items.{Item, char, tag, Tag, itemBytes}
+use Rattle.leaflet.specs.Items.{Item, char, tag, itemBytes}
 use Rattle.leaflet.specs.Decoding.{Next, nothing, found, next}
-use Rattle.leaflet.specs.Spots.{tagNumber}
 use Rattle.leaflet.specs.Reader.{itemsOf, itemsFrom}
-use Rattle.leaflet.specs.Written.{letterRun, rtAhead, ifRt}
 use Rattle.leaflet.specs.Values.{tagOf, FoundAt}
 use Rattle.leaflet.specs.declared.spots.Tag.{Tag as TagValue}
 use Rattle.leaflet.specs.declared.items.Found.{Found}
 use Rattle.leaflet.specs.declared.items.Found.the-variants.{Nothing, Letter, Markup}
-use Rattle.leaflet.proofs.Facts.{no-way}
 use Rattle.leaflet.proofs.Scans.{item-some}
 use Rattle.leaflet.proofs.Walks.{next-shorter}
 
@@ -47,7 +43,7 @@ items-bound (suc n) zero [] h l = items-none (suc n) [] refl ∙ sym (items-none
 items-bound (suc n) zero (b ∷ bs) h l = absurd (omega arith)
 items-bound (suc n) (suc m) bs h l = by-next n m (λ ds. items-bound n m ds) bs h l (next bs) refl
 
-pub items-next : (bs : List ℕ) (i : Item) (ds : List ℕ) → next bs ≡ found i ds → itemsFrom bs ≡ i ∷ itemsFrom ds
+items-next : (bs : List ℕ) (i : Item) (ds : List ℕ) → next bs ≡ found i ds → itemsFrom bs ≡ i ∷ itemsFrom ds
 items-next bs i ds e =
     let w = next-shorter bs i ds e in
     items-bound (length bs) (suc (length bs)) bs (omega arith) (omega arith) ∙ items-one (length bs) bs i ds e
@@ -60,7 +56,7 @@ items-end s at h k =
     let d : drop at s ≡ [] = rw e (drop-length s) in
     rw d
 
--- what a program found at an offset, as an item and those after it ----------------------------------------------------
+-- what a program found at an offset, as an item and those after it ------------------------------------------------
 
 module _ {s : List ℕ} {at : ℕ} {r : Found} (f : FoundAt s at (next (drop at s)) r) where
   pub at-nothing : r ≡ Nothing → itemsFrom (drop at s) ≡ []
@@ -77,8 +73,8 @@ module _ {s : List ℕ} {at : ℕ} {r : Found} (f : FoundAt s at (next (drop at 
   on : (i : Item) (w : ℕ) → at < length s → at + w ≤ length s → next (drop at s) ≡ found i (drop (at + w) s) →
       (1 ≤ w) × (at + w ≤ length s)
   on i w h k e =
-      let n : length s - at ≡ length (itemBytes i) + (length s - (at + w)) =
-      simp length-drop at (next-shorter (drop at s) i (drop (at + w) s) e) in
+      let n : length s - at ≡ length (itemBytes i) + (length s - (at + w))
+      = simp length-drop at (next-shorter (drop at s) i (drop (at + w) s) e) in
       omega (arith, item-some i)
 
   pub on-letter : (c w : ℕ) → at < length s → r ≡ Letter c w → (1 ≤ w) × (at + w ≤ length s)

@@ -1,37 +1,49 @@
--- What is proved of leaflets, in reading order: of texts, of answer 17's place, and of the reader. The definitions that
--- the statements name are those of specs/Utf8, Items, Contents and Faults, and, of the reader, `read` and `firstChar`.
--- Assumes nothing.
+-- What is proved of leaflets (document 02, request 05), in reading order: of texts and answer 17's place, which speak of
+-- no reader; of the records that an import hands to edit; of the reader; and of the program. The definitions that the
+-- statements name are those of specs/Utf8, Items, Contents, Faults and Imported; `firstChar` of proofs/Nexts, the rows
+-- of Unicode's table; and, from the reader on, `read`, `faultIn` and `wordsIn` of specs/Reader. Assumes nothing.
 use mathlib.Core.Path.{_≡_, sym, ap, _∙_}
 use Prim.Native.Nat.{ℕ}
 use mathlib.Core.Bool.{true}
-use mathlib.Core.List.{List, [], _∷_, _++_}
-use mathlib.Core.Option.{none, some}
+use mathlib.Core.List.{List, _++_}
 use mathlib.Core.Logic.{_⊎_, inl, inr, _↔_}
-use Rattle.rules.specs.Records.{codeOk}
+use mathlib.Core.Option.{none, some}
+use Rattle.lists.specs.Lists.{lists}
+use Rattle.lists.specs.Meanings.{Belongs}
+use Rattle.rules.specs.Records.{codeOk, sizeOk, advanceOk, recOk, recordWords}
+use Rattle.rules.specs.Meanings.{All, Listed}
 use Rattle.leaflet.specs.Utf8.{utf8}
-use Rattle.leaflet.specs.Items.{Item, char, itemBytes, bytes}
-use Rattle.leaflet.specs.Contents.{Piece, Spells, Accepted, Part, reading}
+use Rattle.leaflet.specs.Items.{char}
+use Rattle.leaflet.specs.Contents.{listed, Piece, Spells, Accepted, Part, reading}
 use Rattle.leaflet.specs.Faults.{Fault, Standing}
-use Rattle.leaflet.specs.Decoding.{Next, nothing, found, next}
-use Rattle.leaflet.specs.Reader.{Answer, parts, fault, faultIn, read}
-use Rattle.leaflet.proofs.Facts.{no-way}
-use Rattle.leaflet.proofs.Nexts.{firstChar, char-right, char-back}
-use Rattle.leaflet.proofs.Standings.{standing}
+use Rattle.leaflet.specs.Imported.{advanceOf, importedRecords}
+use Rattle.leaflet.specs.Decoding.{found}
+use Rattle.leaflet.specs.Reader.{parts, fault, faultIn, read, wordsIn}
 use Rattle.leaflet.proofs.Readings.{spell-same}
-use Rattle.leaflet.proofs.Ends.{items-spelt, Told, accepted, refused, told, place-only}
+use Rattle.leaflet.proofs.Nexts.{firstChar}
+use Rattle.leaflet.proofs.Ends.{items-spelt, accepted, refused, told, place-only}
+use Rattle.leaflet.proofs.Standings.{standing}
+use Rattle.leaflet.proofs.Answers.{first-told, words-told, parts-told, fault-told, none-told, some-told}
+use Rattle.leaflet.proofs.OwnLists.{some-list}
+use Rattle.leaflet.proofs.Imports.{records-listed, advance-fits, records-ok}
+use Rattle.leaflet.proofs.Worked.{bytesOf, right}
+use Rattle.leaflet.proofs.Examples.{texts, texts-hold, small, small-words, words-hold}
+use Rattle.leaflet.proofs.reader.read_leaflet.Statement as read-leaflet-contract
+use Rattle.leaflet.proofs.reader.read_leaflet.Met as read-leaflet-met
+
+-- Characters ------------------------------------------------------------------------------------------------------
 
 -- "Malformed UTF-8 is judged by the Unicode standard's table of well-formed sequences": the rows of table 3-7 find a
 -- code point exactly where a text starts with the bytes of a scalar value
 pub table-right : (bs : List ℕ) (c : ℕ) (ds : List ℕ) →
     (firstChar bs ≡ found (char c) ds) ↔ ((codeOk c ≡ true) × (utf8 c ++ ds ≡ bs))
-unfolding itemBytes
-table-right bs c ds = (λ e. there bs e, λ h. rw (h .1) at (char-back c ds (h .0)))
-  where
-    there : (bs : List ℕ) → firstChar bs ≡ found (char c) ds → (codeOk c ≡ true) × (utf8 c ++ ds ≡ bs)
-    there [] e = no-way (cc)
-    there (b ∷ bs) e = let r = rw e at (char-right b bs) in (r .1, r .0)
+table-right bs c ds = first-told bs c ds
 
--- Texts -------------------------------------------------------------------------------------------------------------
+-- "in no list": `listed`, by which a base or plain character is judged, holds exactly where some class's list has it
+pub listed-means : (c : ℕ) → (listed c ≡ true) ↔ ((d : ℕ) × Belongs d c lists)
+listed-means c = some-list c
+
+-- Texts -----------------------------------------------------------------------------------------------------------
 
 -- "one text has one reading": one content, and so one reading
 pub one-content : (bs : List ℕ) (ps qs : List Piece) → Spells bs ps → Spells bs qs → ps ≡ qs
@@ -55,7 +67,24 @@ one-place bs j k f g = place-only f g
 pub fault-stands : (bs : List ℕ) (k : ℕ) (f : Fault bs k) → Standing (f .passed) (f .last .left)
 fault-stands bs k f = standing (f .last)
 
--- The reader --------------------------------------------------------------------------------------------------------
+-- Records ---------------------------------------------------------------------------------------------------------
+
+-- each record of an accepted text stands in the list of its class, so answer 12 is never due for an import
+pub imported-listed : (s : ℕ) (bs : List ℕ) (ps : List Piece) → Spells bs ps →
+    All Listed (importedRecords s (reading ps))
+imported-listed s bs ps h = records-listed s ps (h .proper)
+
+-- where the size keeps its rule, so does every advance
+pub imported-advances : (c s : ℕ) → sizeOk s ≡ true → advanceOk c s (advanceOf c s) ≡ true
+imported-advances c s h = advance-fits c s h
+
+-- so for a record in no group answer 8 is never due: it is left to groups, which may be too many, have too many ruby
+-- characters, or a base character of a class that no group may have
+pub imported-ok : (s : ℕ) (bs : List ℕ) (ps : List Piece) → sizeOk s ≡ true → Spells bs ps →
+    All (λ r. r .group ≡ 0 → recOk r ≡ true) (importedRecords s (reading ps))
+imported-ok s bs ps h k = records-ok s ps h (k .proper)
+
+-- The reader ------------------------------------------------------------------------------------------------------
 
 -- the reader gives an accepted text's reading
 pub read-accepted : (bs : List ℕ) (ps : List Piece) → Spells bs ps → read bs ≡ parts (reading ps)
@@ -68,50 +97,33 @@ read-accepted bs ps s =
 -- and whatever it reads is one
 pub read-parts : (bs : List ℕ) (rs : List Part) → read bs ≡ parts rs →
     (ps : List Piece) × Spells bs ps × (rs ≡ reading ps)
-read-parts bs rs h =
-    elim (told bs) [
-      | accepted a d e ↦ (a .content, a .spells, cc)
-      | refused k f d e ↦ no-way (cc)
-    ]
+read-parts bs rs h = parts-told bs rs h
 
 -- the reader gives answer 17's place, and to no accepted text
 pub read-fault : (bs : List ℕ) (k : ℕ) → (read bs ≡ fault k) ↔ Fault bs k
-read-fault bs k = (there, back)
-  where
-    there : read bs ≡ fault k → Fault bs k
-    there h =
-        elim (told bs) [
-          | accepted a d e ↦ no-way (cc)
-          | refused j f d e ↦ let z : j ≡ k = cc in rw z at f
-        ]
+read-fault bs k = fault-told bs k
 
-    back : Fault bs k → read bs ≡ fault k
-    back g =
-        elim (told bs) [
-          | accepted a d e ↦ absurd (g .refused a)
-          | refused j f d e ↦ e ∙ ap fault (place-only f g)
-        ]
+-- the texts of request 05 come out as they were worked by hand, and the words of a small one
+pub worked : right texts ≡ true
+worked = texts-hold
 
--- `first_fault` returns what `faultIn` gives: none to an accepted text, and else answer 17's place
+pub words-worked : wordsIn 80 (bytesOf small) ≡ small-words
+words-worked = words-hold
+
+-- The program -----------------------------------------------------------------------------------------------------
+
+-- its contract speaks of `faultIn` and `wordsIn`. `faultIn` is none of an accepted text, and else answer 17's place
 pub fault-none : (bs : List ℕ) → (faultIn bs ≡ none) ↔ Accepted bs
-fault-none bs = (there, back)
-  where
-    there : faultIn bs ≡ none → Accepted bs
-    there h = elim (told bs) [ accepted a d e ↦ a | refused k f d e ↦ no-way (cc) ]
-
-    back : Accepted bs → faultIn bs ≡ none
-    back g = elim (told bs) [ accepted a d e ↦ d | refused k f d e ↦ absurd (f .refused g) ]
+fault-none bs = none-told bs
 
 pub fault-some : (bs : List ℕ) (k : ℕ) → (faultIn bs ≡ some k) ↔ Fault bs k
-fault-some bs k = (there, back)
-  where
-    there : faultIn bs ≡ some k → Fault bs k
-    there h =
-        elim (told bs) [ accepted a d e ↦ no-way (cc) | refused j f d e ↦ let z : j ≡ k = cc in rw z at f ]
+fault-some bs k = some-told bs k
 
-    back : Fault bs k → faultIn bs ≡ some k
-    back g =
-        elim (told bs) [
-          | accepted a d e ↦ absurd (g .refused a)
-          | refused j f d e ↦ d ∙ ap some (place-only f g)
-        ]
+-- `wordsIn` of an accepted text are the words of its reading's records
+pub words-spelt : (s : ℕ) (bs : List ℕ) (ps : List Piece) → Spells bs ps →
+    wordsIn s bs ≡ recordWords (importedRecords s (reading ps))
+words-spelt s bs ps h = words-told s h
+
+-- and the program meets its contract, for any bytes, size and words
+pub read-leaflet-meets : {M : Type 1} → read-leaflet-contract.statement M
+read-leaflet-meets = read-leaflet-met.met

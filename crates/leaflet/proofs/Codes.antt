@@ -1,23 +1,19 @@
 -- Table 3-7 of Unicode 15.1 is `utf8` of the scalar values: `next` finds a character's code point in its bytes. Assumes
 -- nothing.
-use mathlib.Core.Path.{_≡_, refl, sym, ap, _∙_}
-use Prim.Native.Nat.{ℕ, _+_, _*_, _-_, _/_, _%_, _≤_, _<_}
+use mathlib.Core.Path.{_≡_, sym, _∙_}
+use Prim.Native.Nat.{ℕ, _+_, _*_, _-_, _/_, _≤_, _<_}
 use native.Mathlib.Omega.{arith}
-use mathlib.Core.Bool.{Bool, true, false, not, _&&_}
-use mathlib.Core.List.{List, [], _∷_, _++_}
+use mathlib.Core.Bool.{true, false, not, and-eq-true-iff}
+use mathlib.Core.List.{List, [], _∷_}
 use mathlib.Core.Logic.{_⊎_, inl, inr}
-use lib.Dec.{leb, ltb, eqb}
-use borrow.Author.Tests.{lt-ltb, le-ltb, le-leb, lt-leb, leb-true, leb-false, ltb-true, ltb-false, eqb-true, ne-eqb, not-true}
-use borrow.Author.Tests.{eqb-false}
+use lib.Dec.{leb, eqb}
+use borrow.Author.Tests.{lt-ltb, le-ltb, le-leb, lt-leb, leb-true, eqb-true, not-true}
 use Rattle.rules.specs.Basics.{within}
 use Rattle.rules.specs.Records.{codeOk}
 use Rattle.leaflet.specs.Utf8.{more, utf8}
-use Rattle.leaflet.specs.Items.{Item, char}
-use Rattle.leaflet.specs.Decoding.{Next, nothing, found, low, high, goesOn, second, two, three, four, nextChar}
-use Rattle.leaflet.proofs.Facts.{tested, both, true-false}
-
-pub ordered : (a b : ℕ) → (a < b) ⊎ (b ≤ a)
-ordered a b = elim (tested (ltb a b)) [ inl e ↦ inl (ltb-true a b e) | inr e ↦ inr (ltb-false a b e) ]
+use Rattle.leaflet.specs.Items.{char}
+use Rattle.leaflet.specs.Decoding.{found, low, high, two, three, four, nextChar}
+use Rattle.leaflet.proofs.Facts.{tested, ordered, true-false}
 
 pub inside : (lo hi x : ℕ) → lo ≤ x → x ≤ hi → within lo hi x ≡ true
 inside lo hi x h k = rw (le-leb lo x h, le-leb x hi k)
@@ -29,14 +25,14 @@ pub above : (lo hi x : ℕ) → hi < x → within lo hi x ≡ false
 above lo hi x h = elim (tested (leb lo x)) [ inl e ↦ rw (e, lt-leb x hi h) | inr e ↦ rw e ]
 
 -- the second byte's range
-pub low-under : (b x : ℕ) → (b ≡ 0xE0 → 0xA0 ≤ x) → (b ≡ 0xF0 → 0x90 ≤ x) → 0x80 ≤ x → low b ≤ x
+low-under : (b x : ℕ) → (b ≡ 0xE0 → 0xA0 ≤ x) → (b ≡ 0xF0 → 0x90 ≤ x) → 0x80 ≤ x → low b ≤ x
 low-under b x f g h =
     elim (tested (eqb b 0xE0)) [
       | inl e ↦ rw e (f (eqb-true b 0xE0 e))
       | inr e ↦ elim (tested (eqb b 0xF0)) [ inl d ↦ rw (e, d) (g (eqb-true b 0xF0 d)) | inr d ↦ rw (e, d) h ]
     ]
 
-pub under-high : (b x : ℕ) → (b ≡ 0xED → x ≤ 0x9F) → (b ≡ 0xF4 → x ≤ 0x8F) → x ≤ 0xBF → x ≤ high b
+under-high : (b x : ℕ) → (b ≡ 0xED → x ≤ 0x9F) → (b ≡ 0xF4 → x ≤ 0x8F) → x ≤ 0xBF → x ≤ high b
 under-high b x f g h =
     elim (tested (eqb b 0xED)) [
       | inl e ↦ rw e (f (eqb-true b 0xED e))
@@ -49,7 +45,7 @@ unfolding codeOk
 codeOk-sides c e = (leb-true c 0x10FFFF (p .0), sides)
   where
     p : (leb c 0x10FFFF ≡ true) × (not (within 0xD800 0xDFFF c) ≡ true)
-    p = both (leb c 0x10FFFF) (not (within 0xD800 0xDFFF c)) e
+    p = and-eq-true-iff (leb c 0x10FFFF) (not (within 0xD800 0xDFFF c)) .0 e
 
     sides : (c < 0xD800) ⊎ (0xDFFF < c)
     sides =
@@ -62,6 +58,22 @@ codeOk-sides c e = (leb-true c 0x10FFFF (p .0), sides)
         ]
 
 -- the bytes of a code point, by their number
+pub data Width (c : ℕ) : Type 0 where
+  of-one : c < 128 → Width c
+  of-two : 128 ≤ c → c < 2048 → Width c
+  of-three : 2048 ≤ c → c < 65536 → Width c
+  of-four : 65536 ≤ c → Width c
+
+pub width : (c : ℕ) → Width c
+width c =
+    elim (ordered c 128) [
+      | inl k ↦ of-one k
+      | inr k ↦ elim (ordered c 2048) [
+        | inl l ↦ of-two k l
+        | inr l ↦ elim (ordered c 65536) [ inl m ↦ of-three l m | inr m ↦ of-four m ]
+      ]
+    ]
+
 pub one-byte : (c : ℕ) → c < 128 → utf8 c ≡ c ∷ []
 unfolding utf8
 one-byte c h = simp (lt-ltb c 128 h)
@@ -78,7 +90,7 @@ pub four-bytes : (c : ℕ) → 65536 ≤ c → utf8 c ≡ (240 + c / 262144) ∷
 unfolding utf8
 four-bytes c h = simp (le-ltb c 128 (omega arith), le-ltb c 2048 (omega arith), le-ltb c 65536 h)
 
--- From a code point to its bytes and back ---------------------------------------------------------------------------
+-- From a code point to its bytes and back -------------------------------------------------------------------------
 
 pub back-two : (c : ℕ) (ds : List ℕ) → 128 ≤ c → c < 2048 →
     nextChar (192 + c / 64) (more c ∷ ds) ≡ found (char c) ds

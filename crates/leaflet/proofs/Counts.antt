@@ -1,20 +1,20 @@
 -- The loops that count the characters of the next rt, as steps: what is left from an offset on gives what the whole
 -- gives. Assumes nothing.
-use mathlib.Core.Path.{_≡_, refl, sym, ap, _∙_}
-use Prim.Native.Nat.{ℕ, suc, _+_, _≤_, _<_}
+use mathlib.Core.Path.{_≡_, refl, sym, _∙_}
+use Prim.Native.Nat.{ℕ, _+_, _≤_, _<_}
 use native.Mathlib.Omega.{arith}
 use mathlib.Core.List.{List, [], _∷_}
 use lib.ListN.{length, drop}
-use Rattle.leaflet.specs.Items.{Item, char, tag, Tag}
+use Rattle.leaflet.specs.Items.{char, tag}
 use Rattle.leaflet.specs.Decoding.{next}
 use Rattle.leaflet.specs.Spots.{tagNumber}
 use Rattle.leaflet.specs.Reader.{itemsFrom}
 use Rattle.leaflet.specs.Written.{letterRun, rtAhead}
-use Rattle.leaflet.proofs.TagTests.{is-rt, no-rt}
 use Rattle.leaflet.specs.Values.{tagOf, FoundAt}
 use Rattle.leaflet.specs.declared.spots.Tag.{Tag as TagValue}
 use Rattle.leaflet.specs.declared.items.Found.{Found}
 use Rattle.leaflet.specs.declared.items.Found.the-variants.{Nothing, Letter, Markup}
+use Rattle.leaflet.proofs.TagTests.{is-rt, no-rt}
 use Rattle.leaflet.proofs.Aheads.{items-end, at-nothing, at-letter, at-markup, on-letter, on-markup}
 
 -- the characters between two offsets are counted
@@ -30,7 +30,8 @@ module _ {s : List ℕ} {at : ℕ} where
   pub counted-end : {i count : ℕ} → length s ≤ i → Counted s at i count → count ≡ letterRun (itemsFrom (drop at s))
   unfolding letterRun
   counted-end {i} {count} h w =
-      let e : count + letterRun [] ≡ letterRun (itemsFrom (drop at s)) = rw (items-end s i h (w .inside)) at (w .same) in
+      let e : count + letterRun [] ≡ letterRun (itemsFrom (drop at s))
+      = rw (items-end s i h (w .inside)) at (w .same) in
       omega arith
 
   module _ {i count : ℕ} {r : Found} (w : Counted s at i count) (f : FoundAt s i (next (drop i s)) r) where
@@ -44,15 +45,16 @@ module _ {s : List ℕ} {at : ℕ} where
     unfolding letterRun
     counted-markup v n e =
         let is = itemsFrom (drop (i + n) s) in
-        let d : count + letterRun (tag (tagOf v) ∷ is) ≡ letterRun (itemsFrom (drop at s)) =
-        rw (at-markup f v n e) at (w .same) in
+        let d : count + letterRun (tag (tagOf v) ∷ is) ≡ letterRun (itemsFrom (drop at s))
+        = rw (at-markup f v n e) at (w .same) in
         omega arith
 
     pub counted-more : (c n : ℕ) → i < length s → r ≡ Letter c n → Counted s at (i + n) (count + 1)
     unfolding letterRun
     counted-more c n h e =
         let is = itemsFrom (drop (i + n) s) in
-        let d : count + letterRun (char c ∷ is) ≡ letterRun (itemsFrom (drop at s)) = rw (at-letter f c n e) at (w .same) in
+        let d : count + letterRun (char c ∷ is) ≡ letterRun (itemsFrom (drop at s))
+        = rw (at-letter f c n e) at (w .same) in
         let o = on-letter f c n h e in
         record { inside = o .1; few = omega (arith, w .few); same = omega arith }
 

@@ -1,18 +1,18 @@
 -- How the reader ends: a text is accepted, or has its fault where the reader stopped. Assumes nothing.
 use mathlib.Core.Path.{_≡_, refl, sym, ap, _∙_}
-use Prim.Native.Nat.{ℕ, _+_, _≤_}
+use Prim.Native.Nat.{ℕ, _+_}
 use native.Mathlib.Omega.{arith}
-use mathlib.Core.Bool.{true, false}
-use mathlib.Core.List.{List, [], _∷_, _++_, append-nil}
-use mathlib.Core.Logic.{_⊎_, inl, inr}
-use mathlib.Core.Option.{Option, none, some}
+use mathlib.Core.Bool.{true}
+use mathlib.Core.List.{List, [], _∷_, append-nil}
+use mathlib.Core.Logic.{inl, inr}
+use mathlib.Core.Option.{none, some}
 use lib.ListN.{length}
-use Rattle.leaflet.specs.Items.{Item, bytes}
+use Rattle.leaflet.specs.Items.{bytes}
 use Rattle.leaflet.specs.Contents.{Piece, spell, Spells, Accepted, reading}
-use Rattle.leaflet.specs.Faults.{LongestBeginning, Fault}
+use Rattle.leaflet.specs.Faults.{Fault}
 use Rattle.leaflet.specs.Spots.{Spot, outside, opened, in-base, bare-opened, in-bare, in-first, rt-due}
 use Rattle.leaflet.specs.Spots.{fenced-opened, in-fenced, rp-due, in-last, closing, isOutside}
-use Rattle.leaflet.specs.Reader.{isEmpty, ended, scan, itemsOf, partsIn, Answer, parts, fault, answered, faultIn, read}
+use Rattle.leaflet.specs.Reader.{ended, scan, itemsOf, parts, fault, faultIn, read}
 use Rattle.leaflet.proofs.Facts.{tested, nil-cons, true-false, no-way}
 use Rattle.leaflet.proofs.Runs.{run-spell, run-spelt}
 use Rattle.leaflet.proofs.Gathers.{parts-spelt}
@@ -39,7 +39,8 @@ data Ends (q : Spot) (k : ℕ) (bs : List ℕ) : Type 0 where
   badly : ended q k bs ≡ some k → (q ≡ outside → bs ≡ [] → ⊥) → Ends q k bs
 
 ends : (q : Spot) (k : ℕ) (bs : List ℕ) → Ends q k bs
-ends q k bs = elim (tested (isOutside q)) [ inl e ↦ here bs e | inr e ↦ badly (rw e) (λ z b. true-false (sym (rw z) ∙ e)) ]
+ends q k bs =
+    elim (tested (isOutside q)) [ inl e ↦ here bs e | inr e ↦ badly (rw e) (λ z b. true-false (sym (rw z) ∙ e)) ]
   where
     here : (bs : List ℕ) → isOutside q ≡ true → Ends q k bs
     here [] e = well (rw e) (is-outside q e) refl

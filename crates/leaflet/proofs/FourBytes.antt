@@ -2,18 +2,18 @@
 use mathlib.Core.Path.{_≡_, ap}
 use Prim.Native.Nat.{ℕ, _+_, _*_, _-_, _/_, _%_, _≤_}
 use native.Mathlib.Omega.{arith}
-use mathlib.Core.Bool.{_&&_}
+use mathlib.Core.Bool.{_&&_, and-eq-true-iff}
 use mathlib.Core.List.{List, [], _∷_, _++_}
 use mathlib.Core.Logic.{inl, inr}
 use Rattle.leaflet.specs.Utf8.{utf8}
 use Rattle.leaflet.specs.Items.{itemBytes}
 use Rattle.leaflet.specs.Decoding.{low, high, goesOn, second, four}
-use Rattle.leaflet.proofs.Facts.{tested, both}
-use Rattle.leaflet.proofs.Codes.{ordered, four-bytes}
+use Rattle.leaflet.proofs.Facts.{tested, ordered}
+use Rattle.leaflet.proofs.Codes.{four-bytes}
 use Rattle.leaflet.proofs.Rows.{Right, limits, low-least, high-most, is-codeOk}
 
-module _ (b x y z : ℕ) (hb : 0xF0 ≤ b) (kb : b ≤ 0xF4) (hx : low b ≤ x) (kx : x ≤ high b) (hy : 0x80 ≤ y) (ky : y ≤ 0xBF)
-    (hz : 0x80 ≤ z) (kz : z ≤ 0xBF) where
+module _ (b x y z : ℕ) (hb : 0xF0 ≤ b) (kb : b ≤ 0xF4) (hx : low b ≤ x) (kx : x ≤ high b)
+    (hy : 0x80 ≤ y) (ky : y ≤ 0xBF) (hz : 0x80 ≤ z) (kz : z ≤ 0xBF) where
   four-code : ℕ
   four-code = (b - 240) * 262144 + (x - 128) * 4096 + (y - 128) * 64 + (z - 128)
 
@@ -58,8 +58,8 @@ four-right b (x ∷ y ∷ []) h k = tt
 four-right b (x ∷ y ∷ z ∷ bs) h k =
     elim (tested (second b x && goesOn y && goesOn z)) [
       | inl e ↦
-          let r = both (second b x && goesOn y) (goesOn z) e in
-          let p = both (second b x) (goesOn y) (r .0) in
+          let r = and-eq-true-iff (second b x && goesOn y) (goesOn z) .0 e in
+          let p = and-eq-true-iff (second b x) (goesOn y) .0 (r .0) in
           let l = limits (low b) (high b) x (p .0) in
           let m = limits 0x80 0xBF y (p .1) in
           let n = limits 0x80 0xBF z (r .1) in

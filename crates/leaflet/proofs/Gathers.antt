@@ -1,13 +1,12 @@
 -- Items read from the last to the first give back a content's reading. Assumes nothing.
-use mathlib.Core.Path.{_≡_, refl, sym, ap, _∙_}
+use mathlib.Core.Path.{_≡_, refl, ap, _∙_}
 use Prim.Native.Nat.{ℕ}
 use mathlib.Core.List.{List, [], _∷_, _++_, append-nil}
-use lib.ListN.{length}
+use Rattle.rules.specs.Basics.{whole}
 use Rattle.leaflet.specs.Items.{Item, char, tag, Tag}
-use Rattle.rules.specs.Basics.{Run, whole}
 use Rattle.leaflet.specs.Contents.{Over, bare, fenced, Piece, single, group, chars, spellOver, spell}
 use Rattle.leaflet.specs.Contents.{Part, count, partOf, reading}
-use Rattle.leaflet.specs.Reader.{Gathered, singles, gather, gathered, partsIn}
+use Rattle.leaflet.specs.Reader.{Gathered, gather, gathered, partsIn}
 
 abbrev before : List ℕ → Gathered → Gathered
 before cs g = record { letters = cs ++ g .letters; ruby = g .ruby; parts = g .parts }

@@ -1,16 +1,15 @@
 -- The records that a program writes from the first item to the last are those of the content. Assumes nothing.
-use mathlib.Core.Path.{_≡_, refl, sym, ap, _∙_}
+use mathlib.Core.Path.{_≡_, refl, ap, _∙_}
 use Prim.Native.Nat.{ℕ, suc}
-use mathlib.Core.Bool.{Bool, true, false}
+use mathlib.Core.Bool.{true, false}
 use mathlib.Core.List.{List, [], _∷_, _++_, map}
 use lib.ListN.{length}
-use Rattle.leaflet.specs.Items.{Item, char, tag, Tag}
 use Rattle.rules.specs.Basics.{whole}
-use Rattle.leaflet.specs.Contents.{Over, bare, fenced, Piece, single, group, chars, spellOver, spell, count, reading}
-use Rattle.leaflet.specs.Contents.{Each, Proper, ProperOver, plain, text}
-use Rattle.leaflet.specs.Spots.{Spot, outside, opened, in-base, in-bare, in-first, in-fenced, in-last, closing}
-use Rattle.leaflet.specs.Spots.{bare-opened, rt-due, fenced-opened, rp-due, wantsPlain, isOutside, step}
+use Rattle.leaflet.specs.Items.{Item, char, tag, Tag}
+use Rattle.leaflet.specs.Contents.{Over, bare, fenced, Piece, single, group, chars, spellOver, spell, count}
+use Rattle.leaflet.specs.Contents.{reading, Each, Proper, ProperOver, plain, text}
 use Rattle.leaflet.specs.Imported.{asWord, recordOf, recordsAfter}
+use Rattle.leaflet.specs.Spots.{Spot, outside, in-base, wantsPlain}
 use Rattle.leaflet.specs.Written.{letterRun, rtAhead, written, kept, ifRuby}
 use Rattle.leaflet.proofs.Moves.{Move, single-char, open-ruby, first-base, more-base, open-bare, first-bare}
 use Rattle.leaflet.proofs.Moves.{more-bare, end-bare, open-first, more-first, end-first, open-fenced}

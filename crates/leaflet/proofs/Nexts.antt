@@ -1,6 +1,7 @@
--- What `next` finds in a text is the item whose bytes the text starts with, and no such item escapes it. Assumes nothing.
+-- What `next` finds in a text is the item whose bytes the text starts with, and no such item escapes it. Assumes
+-- nothing.
 use mathlib.Core.Path.{_≡_, refl, _∙_}
-use Prim.Native.Nat.{ℕ, _+_, _<_}
+use Prim.Native.Nat.{ℕ, _<_}
 use native.Mathlib.Omega.{arith}
 use mathlib.Core.Bool.{true}
 use mathlib.Core.List.{List, [], _∷_, _++_}
@@ -12,17 +13,15 @@ use Rattle.rules.specs.Basics.{within}
 use Rattle.rules.specs.Records.{codeOk}
 use Rattle.leaflet.specs.Utf8.{utf8}
 use Rattle.leaflet.specs.Items.{Item, char, tag, Tag, tagBytes, itemBytes}
-use Rattle.leaflet.specs.Contents.{text}
 use Rattle.leaflet.specs.Faults.{Element}
-use Rattle.leaflet.specs.Decoding.{Next, nothing, found, nextChar}
-use Rattle.leaflet.specs.Decoding.{strip, tagOr, nextTag, allTags, next}
+use Rattle.leaflet.specs.Decoding.{Next, nothing, found, nextChar, strip, tagOr, nextTag, allTags, next}
 use Rattle.leaflet.proofs.Facts.{tested}
-use Rattle.leaflet.proofs.Codes.{ordered, one-byte, two-bytes, three-bytes, four-bytes, codeOk-sides}
-use Rattle.leaflet.proofs.Codes.{back-two, back-three, back-four}
+use Rattle.leaflet.proofs.Codes.{width, of-one, of-two, of-three, of-four, one-byte, two-bytes, three-bytes}
+use Rattle.leaflet.proofs.Codes.{four-bytes, codeOk-sides, back-two, back-three, back-four}
 use Rattle.leaflet.proofs.Rows.{Right, limits, one-right, two-right, three-right}
 use Rattle.leaflet.proofs.FourBytes.{four-right}
 
--- What is found is right --------------------------------------------------------------------------------------------
+-- What is found is right ------------------------------------------------------------------------------------------
 
 pub char-right : (b : ℕ) (bs : List ℕ) → Right (b ∷ bs) (nextChar b bs)
 unfolding nextChar
@@ -68,7 +67,8 @@ or-right t bs (some ds) n f r = (f, tt)
 tag-right : (ts : List Tag) (bs : List ℕ) → Right bs (nextTag ts bs)
 unfolding nextTag
 tag-right [] bs = tt
-tag-right (t ∷ ts) bs = or-right t bs (strip (tagBytes t) bs) (nextTag ts bs) (strip-follows (tagBytes t) bs) (tag-right ts bs)
+tag-right (t ∷ ts) bs =
+    or-right t bs (strip (tagBytes t) bs) (nextTag ts bs) (strip-follows (tagBytes t) bs) (tag-right ts bs)
 
 pub next-right : (bs : List ℕ) → Right bs (next bs)
 unfolding next
@@ -76,7 +76,7 @@ next-right [] = tt
 next-right (b ∷ bs) =
     elim (tested (eqb b 60)) [ inl e ↦ rw e (tag-right allTags (b ∷ bs)) | inr e ↦ rw e (char-right b bs) ]
 
--- And all is found --------------------------------------------------------------------------------------------------
+-- And all is found ------------------------------------------------------------------------------------------------
 
 tag-found : (t : Tag) (ds : List ℕ) → next (tagBytes t ++ ds) ≡ found (tag t) ds
 unfolding next nextTag strip tagBytes
@@ -102,29 +102,21 @@ firstChar (b ∷ bs) = nextChar b bs
 
 pub char-back : (c : ℕ) (ds : List ℕ) → codeOk c ≡ true → firstChar (utf8 c ++ ds) ≡ found (char c) ds
 char-back c ds s =
-    elim (ordered c 128) [
-      | inl k ↦ rw (one-byte c k) (back-one c ds k)
-      | inr k ↦ elim (ordered c 2048) [
-        | inl l ↦ rw (two-bytes c k l) (back-two c ds k l)
-        | inr l ↦ elim (ordered c 65536) [
-          | inl m ↦ rw (three-bytes c l m) (back-three c ds s l m)
-          | inr m ↦ rw (four-bytes c m) (back-four c ds m (codeOk-sides c s .0))
-        ]
-      ]
+    elim (width c) [
+      | of-one k ↦ rw (one-byte c k) (back-one c ds k)
+      | of-two k l ↦ rw (two-bytes c k l) (back-two c ds k l)
+      | of-three k l ↦ rw (three-bytes c k l) (back-three c ds s k l)
+      | of-four k ↦ rw (four-bytes c k) (back-four c ds k (codeOk-sides c s .0))
     ]
 
 -- no character but "<" starts with the byte 60
 first-past : (c : ℕ) (ds : List ℕ) → (c ≡ 60 → ⊥) → next (utf8 c ++ ds) ≡ firstChar (utf8 c ++ ds)
 first-past c ds h =
-    elim (ordered c 128) [
-      | inl k ↦ rw (one-byte c k) (past c ds h)
-      | inr k ↦ elim (ordered c 2048) [
-        | inl l ↦ rw (two-bytes c k l) (past _ _ (λ e. omega arith))
-        | inr l ↦ elim (ordered c 65536) [
-          | inl m ↦ rw (three-bytes c l m) (past _ _ (λ e. omega arith))
-          | inr m ↦ rw (four-bytes c m) (past _ _ (λ e. omega arith))
-        ]
-      ]
+    elim (width c) [
+      | of-one k ↦ rw (one-byte c k) (past c ds h)
+      | of-two k l ↦ rw (two-bytes c k l) (past _ _ (λ e. omega arith))
+      | of-three k l ↦ rw (three-bytes c k l) (past _ _ (λ e. omega arith))
+      | of-four k ↦ rw (four-bytes c k) (past _ _ (λ e. omega arith))
     ]
 
 pub next-found : (i : Item) (ds : List ℕ) → Element i → next (itemBytes i ++ ds) ≡ found i ds

@@ -2,18 +2,16 @@
 use mathlib.Core.Path.{_≡_, refl, sym, _∙_}
 use Prim.Native.Nat.{ℕ, _+_, _-_, _≤_, _<_}
 use native.Mathlib.Omega.{arith}
-use mathlib.Core.Bool.{Bool, true, false, cond, not}
+use mathlib.Core.Bool.{Bool, true, false, cond}
 use mathlib.Core.List.{List, [], _∷_, _++_}
 use mathlib.Core.Logic.{inl, inr}
 use mathlib.Core.Option.{Option, none, some}
-use lib.Dec.{eqb}
-use lib.ListN.{length}
 use lib.Seq.{sets}
 use borrow.Author.Tests.{ne-eqb}
 use Rattle.lists.specs.Lists.{classOf}
 use Rattle.rules.specs.Records.{Rec, recordWords}
 use Rattle.leaflet.specs.Items.{char}
-use Rattle.leaflet.specs.Contents.{text, plain}
+use Rattle.leaflet.specs.Contents.{plain}
 use Rattle.leaflet.specs.Imported.{advanceOf}
 use Rattle.leaflet.specs.Spots.{Spot, outside, opened, in-base, bare-opened, in-bare, in-first, rt-due}
 use Rattle.leaflet.specs.Spots.{fenced-opened, in-fenced, rp-due, in-last, closing, wantsPlain, letters}

@@ -1,56 +1,33 @@
--- The loop that reads a text into records, as steps. Assumes nothing.
+-- The loop that reads a text into records, as steps: what it starts with, and a turn at a character and at a tag.
+-- Assumes nothing.
 use mathlib.Core.Path.{_≡_, refl, sym, ap, _∙_}
-use Prim.Native.Nat.{ℕ, suc, _+_, _-_, _%_, _≤_, _<_}
+use Prim.Native.Nat.{ℕ, suc, _+_, _%_, _≤_, _<_}
 use native.Mathlib.Omega.{arith}
-use mathlib.Core.Bool.{true, false}
-use mathlib.Core.List.{List, [], _∷_, _++_, append-nil, append-assoc}
-use mathlib.Core.Option.{Option, none, some}
+use mathlib.Core.List.{List, _++_, append-assoc}
 use mathlib.Core.Logic.{inl, inr}
+use mathlib.Core.Option.{some}
 use lib.ListN.{length, take, drop, length-append}
-use lib.Seq.{sets, sets-eq, length-sets, take-at, take-all, take-append-le, take-take, length-take-le}
-use Rattle.rules.specs.Records.{Rec, recordWords}
-use Rattle.leaflet.specs.Items.{Item, char, tag, Tag}
-use Rattle.leaflet.specs.Imported.{recordsAfter}
+use lib.Seq.{sets, sets-eq, length-sets, take-at, length-take-le}
+use Rattle.rules.specs.Records.{recordWords}
+use Rattle.leaflet.specs.Items.{char, tag, Tag}
 use Rattle.leaflet.specs.Decoding.{next}
-use Rattle.leaflet.specs.Spots.{Spot, outside, wantsPlain, isOutside, letters, step}
-use Rattle.leaflet.specs.Reader.{faultFrom, faultIn, itemsFrom, partsIn, wordsIn}
+use Rattle.leaflet.specs.Spots.{Spot, outside, wantsPlain, letters, step}
+use Rattle.leaflet.specs.Reader.{faultIn, itemsFrom}
 use Rattle.leaflet.specs.Written.{toward, ifRuby, rtAhead, kept, written}
-use Rattle.leaflet.specs.Values.{tagOf, spotOf, stepOf, outcomeOf, filledAs, wordsOf, FoundAt, Putting}
-use Rattle.leaflet.specs.Values.{refused as refused-here, put, ReadAs, at-fault, in-words, full}
+use Rattle.leaflet.specs.Values.{tagOf, spotOf, stepOf, wordsOf, FoundAt, Putting, put}
 use Rattle.leaflet.specs.declared.spots.Tag.{Tag as TagValue}
 use Rattle.leaflet.specs.declared.spots.Spot.{Spot as SpotValue}
 use Rattle.leaflet.specs.declared.spots.Step.{Step}
-use Rattle.leaflet.specs.declared.spots.Step.the-variants.{To, Refused}
+use Rattle.leaflet.specs.declared.spots.Step.the-variants.{To}
 use Rattle.leaflet.specs.declared.items.Found.{Found}
-use Rattle.leaflet.specs.declared.items.Found.the-variants.{Nothing, Letter, Markup}
-use Rattle.leaflet.specs.declared.reader.Outcome.{Outcome}
-use Rattle.leaflet.specs.declared.reader.Outcome.the-variants.{Whole, Fault}
-use Rattle.leaflet.specs.declared.reader.Reading.the-variants.{Fault as FaultAt, Words}
+use Rattle.leaflet.specs.declared.items.Found.the-variants.{Letter, Markup}
 use Rattle.leaflet.specs.declared.records.Put.{Put}
-use Rattle.leaflet.specs.declared.records.Put.the-variants.{Refused as PutRefused, Full, Next as NextAt}
-use Rattle.leaflet.proofs.Facts.{tested, some-none}
-use Rattle.leaflet.proofs.Gathers.{parts-spelt}
-use Rattle.leaflet.proofs.Ends.{Told, accepted, refused, told, items-spelt}
-use Rattle.leaflet.proofs.Walks.{ahead-none, ahead-char, ahead-tag}
-use Rattle.leaflet.proofs.Walked.{Walked, walked-start, walked-fault, walked-more, walked-whole, walked-open}
-use Rattle.leaflet.proofs.Aheads.{items-end, at-letter, at-markup, on-letter, on-markup}
-use Rattle.leaflet.proofs.Marked.{written-spelt}
+use Rattle.leaflet.specs.declared.records.Put.the-variants.{Next as NextAt}
+use Rattle.leaflet.proofs.Facts.{tested}
+use Rattle.leaflet.proofs.Walks.{ahead-char, ahead-tag}
+use Rattle.leaflet.proofs.Walked.{Walked, walked-start, walked-more}
+use Rattle.leaflet.proofs.Aheads.{at-letter, at-markup, on-letter, on-markup}
 use Rattle.leaflet.proofs.Puts.{kept-words}
-
--- the words that the loop puts are those of the text's parts, where the text is accepted
-all-words : (size : ℕ) (s : List ℕ) → faultIn s ≡ none →
-    recordWords (written size outside 0 0 (itemsFrom s)) ≡ wordsIn size s
-unfolding wordsIn
-all-words size s h =
-    elim (told s) [
-      | accepted a d e ↦
-          let i = items-spelt (a .spells) in
-          ap recordWords
-          (ap (written size outside 0 0) i
-          ∙ written-spelt size 0 0 (a .content) (a .spells .proper)
-          ∙ ap (recordsAfter size 0) (sym (ap partsIn i ∙ parts-spelt (a .content))))
-      | refused k f d e ↦ absurd (some-none (sym d ∙ h))
-    ]
 
 -- what stands before index i, and the words of the records of what is left, are all words
 pub record Loop (s : List ℕ) (size : ℕ) (out : List ℕ) (at : ℕ) (q : Spot) (k n i : ℕ) : Type 0 where
@@ -106,10 +83,11 @@ module _ {s : List ℕ} {size : ℕ} where
         let there : some (spotOf p) ≡ step q (char c) = ap some x ∙ sym g in
         let a = ahead-char h c w (To p) f z there in
         let ws = wordsOf size q k n c in
-        let rest = recordWords (written size (spotOf p) k n (itemsFrom (drop (at + w) s))) in
+        let later = itemsFrom (drop (at + w) s) in
+        let rest = recordWords (written size (spotOf p) k n later) in
         let first : recordWords (written size q k n (itemsFrom (drop at s))) ≡ ws ++ rest
         = ap (λ is. recordWords (written size q k n is)) (at-letter f c w z)
-        ∙ ap (λ o. recordWords (kept size q k n c (written size (toward o) k n (itemsFrom (drop (at + w) s))))) (sym there)
+        ∙ ap (λ o. recordWords (kept size q k n c (written size (toward o) k n later))) (sym there)
         ∙ kept-words size q k n c _ in
         let put-here : take (i + length ws) (sets out i ws) ≡ take i out ++ ws
         = put-there out ws i (omega (arith, l .long)) in
@@ -154,56 +132,3 @@ module _ {s : List ℕ} {size : ℕ} where
               (ifRuby (tagOf v) (rtAhead (itemsFrom (drop (at + w) s))) n) (itemsFrom (drop (at + w) s)))) g
               ∙ ap (λ is. take i out ++ recordWords (written size q k n is)) (sym (at-markup f v w z)) ∙ l .all;
         })
-
-    -- where it stops
-    pub loop-nothing : {r : Found} {e : List ℕ} → FoundAt s at (next (drop at s)) r → at < length s → r ≡ Nothing →
-        ReadAs s size e (FaultAt at)
-    loop-nothing f h z = at-fault (sym (walked-fault (l .walked) (ahead-none h f z) refl))
-
-    letter-refused : {r : Found} {e : List ℕ} (c w : ℕ) → FoundAt s at (next (drop at s)) r → at < length s →
-        r ≡ Letter c w → Putting out e i size q k n c PutRefused → ReadAs s size e (FaultAt at)
-    letter-refused c w f h z (refused-here g) =
-        at-fault (sym (walked-fault (l .walked) (ahead-char h c w Refused f z (sym g)) refl))
-
-    pub loop-refused : {r : Found} {e : List ℕ} {o : Put} (c w : ℕ) → FoundAt s at (next (drop at s)) r →
-        at < length s → r ≡ Letter c w → Putting out e i size q k n c o → o ≡ PutRefused → ReadAs s size e (FaultAt at)
-    loop-refused c w f h z a y = letter-refused c w f h z (rw y at a)
-
-    pub loop-astray : {r : Found} {e : List ℕ} (v : TagValue) (w : ℕ) {t : Step} → FoundAt s at (next (drop at s)) r →
-        at < length s → r ≡ Markup v w → stepOf t ≡ step q (tag (tagOf v)) → t ≡ Refused → ReadAs s size e (FaultAt at)
-    loop-astray v w f h z t y =
-        let g : none ≡ step q (tag (tagOf v)) = rw y at t in
-        at-fault (sym (walked-fault (l .walked) (ahead-tag h v w Refused f z g) refl))
-
-    pub loop-open : {e : List ℕ} → length s ≤ at → isOutside q ≡ false → ReadAs s size e (FaultAt at)
-    loop-open h o = at-fault (sym (walked-open h o (l .walked)))
-
-    pub loop-end : length s ≤ at → isOutside q ≡ true → ReadAs s size out (Words i)
-    unfolding written recordWords
-    loop-end h o =
-        let well = sym (walked-whole h o (l .walked)) in
-        let none-left : itemsFrom (drop at s) ≡ [] = items-end s at h (l .walked .inside) in
-        let whole : take i out ≡ wordsIn size s
-        = sym (append-nil (take i out))
-        ∙ ap (λ is. take i out ++ recordWords (written size q k n is)) (sym none-left)
-        ∙ l .all ∙ all-words size s well in
-        let few = length-take-le i out (omega (arith, l .long, l .room)) in
-        in-words {n = i} well (l .room)
-        (whole ∙ sym (take-all 1542 (wordsIn size s) (rw (← whole) (omega (arith, few, l .room)))))
-
-    -- where there is no more room, the words are those of 257 records
-    letter-full : {e : List ℕ} (c : ℕ) (o : Outcome) → Putting out e i size q k n c Full →
-        outcomeOf o ≡ faultFrom q at (drop at s) → ReadAs s size e (filledAs o i)
-    letter-full c (Fault p) (full e x) g = at-fault (sym (g ∙ l .walked .same))
-    letter-full c Whole (full e x) g =
-        let well = sym (g ∙ l .walked .same) in
-        let all : i ≡ 1542 = omega (arith, l .room, l .sixes, x) in
-        let few = length-take-le i out (omega (arith, l .long, l .room)) in
-        let rest = recordWords (written size q k n (itemsFrom (drop at s))) in
-        in-words {n = i} well (l .room)
-        (rw e (sym (ap (take 1542) (sym (l .all ∙ all-words size s well))
-        ∙ take-at (take i out) rest 1542 (few ∙ all))))
-
-    pub loop-full : {e : List ℕ} (c : ℕ) {o : Put} (t : Outcome) → Putting out e i size q k n c o → o ≡ Full →
-        outcomeOf t ≡ faultFrom q at (drop at s) → ReadAs s size e (filledAs t i)
-    loop-full c t a y g = letter-full c t (rw y at a) g

@@ -1,12 +1,10 @@
 -- One text has one reading, at the level of items: contents that spell the same items are equal, and reading items from
 -- the last to the first gives back the parts. Assumes nothing.
-use mathlib.Core.Path.{_≡_, refl, sym, ap, _∙_}
+use mathlib.Core.Path.{_≡_, refl}
 use Prim.Native.Nat.{ℕ}
-use mathlib.Core.Bool.{Bool, true}
-use mathlib.Core.List.{List, [], _∷_, _++_}
-use lib.ListN.{length}
-use Rattle.leaflet.specs.Items.{Item, char, tag, Tag}
+use mathlib.Core.List.{List, [], _∷_}
 use Rattle.rules.specs.Basics.{Run, whole}
+use Rattle.leaflet.specs.Items.{Item, tag, Tag}
 use Rattle.leaflet.specs.Contents.{Over, bare, fenced, Piece, single, group, chars, spellOver, spell}
 use Rattle.leaflet.proofs.Facts.{no-way}
 

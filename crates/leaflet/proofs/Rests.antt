@@ -2,12 +2,12 @@
 -- dead end. Assumes nothing.
 use mathlib.Core.Path.{_≡_, refl}
 use Prim.Native.Nat.{ℕ}
-use mathlib.Core.Bool.{Bool, true}
-use mathlib.Core.List.{List, [], _∷_, _++_}
+use mathlib.Core.Bool.{true}
+use mathlib.Core.List.{List, [], _∷_}
 use Rattle.lists.specs.Lists.{lists, inList, classOf}
-use Rattle.rules.specs.Records.{codeOk}
-use Rattle.leaflet.specs.Items.{Item, char, tag, Tag}
 use Rattle.rules.specs.Basics.{Run, whole}
+use Rattle.rules.specs.Records.{codeOk}
+use Rattle.leaflet.specs.Items.{Item, tag, Tag}
 use Rattle.leaflet.specs.Contents.{listed, text, plain, bare, fenced, Piece, single, group, chars}
 use Rattle.leaflet.specs.Contents.{spell, Each, Proper}
 use Rattle.leaflet.specs.Spots.{Spot, outside, opened, in-base, bare-opened, in-bare, in-first, rt-due}
@@ -26,14 +26,16 @@ pub data Rest : Spot → List Item → Type 0 where
   fenced-whole : (t : Run ℕ) {is : List Item} → Each text (whole t) → Rest rp-due is →
       Rest fenced-opened (chars (whole t) (tag Tag.rt-end ∷ is))
   due-rt : {is : List Item} → Rest fenced-opened is → Rest rt-due (tag Tag.rt ∷ is)
-  first-rp : (p : List ℕ) {is : List Item} → Each text p → Rest rt-due is → Rest in-first (chars p (tag Tag.rp-end ∷ is))
+  first-rp : (p : List ℕ) {is : List Item} → Each text p → Rest rt-due is →
+      Rest in-first (chars p (tag Tag.rp-end ∷ is))
   bare-text : (t : List ℕ) {is : List Item} → Each text t → Rest closing is →
       Rest in-bare (chars t (tag Tag.rt-end ∷ is))
   bare-whole : (t : Run ℕ) {is : List Item} → Each text (whole t) → Rest closing is →
       Rest bare-opened (chars (whole t) (tag Tag.rt-end ∷ is))
   base-bare : (b : List ℕ) {is : List Item} → Each plain b → Rest bare-opened is →
       Rest in-base (chars b (tag Tag.rt ∷ is))
-  base-fenced : (b : List ℕ) {is : List Item} → Each plain b → Rest in-first is → Rest in-base (chars b (tag Tag.rp ∷ is))
+  base-fenced : (b : List ℕ) {is : List Item} → Each plain b → Rest in-first is →
+      Rest in-base (chars b (tag Tag.rp ∷ is))
   whole-bare : (b : Run ℕ) {is : List Item} → Each plain (whole b) → Rest bare-opened is →
       Rest opened (chars (whole b) (tag Tag.rt ∷ is))
   whole-fenced : (b : Run ℕ) {is : List Item} → Each plain (whole b) → Rest in-first is →
@@ -46,7 +48,8 @@ pub rest-move : {q p : Spot} {i : Item} {is : List Item} → Move q i p → Rest
 unfolding spell
 rest-move (single-char {c = c} h) (pieces ps g) = pieces (single c ∷ ps) (h, g)
 rest-move open-ruby (whole-bare b hb (bare-whole t ht (closed ps g))) = pieces (group b (bare t) ∷ ps) (hb, ht, g)
-rest-move open-ruby (whole-fenced b hb (first-rp p hp (due-rt (fenced-whole t ht (due-rp (last-rp q hq (closed ps g))))))) =
+rest-move open-ruby
+    (whole-fenced b hb (first-rp p hp (due-rt (fenced-whole t ht (due-rp (last-rp q hq (closed ps g))))))) =
     pieces (group b (fenced p t q) ∷ ps) (hb, (hp, ht, hq), g)
 rest-move (first-base {c = c} h) (base-bare b hb r) = whole-bare (runOf c b) (h, hb) r
 rest-move (first-base {c = c} h) (base-fenced b hb r) = whole-fenced (runOf c b) (h, hb) r

@@ -2,18 +2,19 @@
 use mathlib.Core.Path.{_≡_, ap}
 use Prim.Native.Nat.{ℕ, _+_, _*_, _-_, _/_, _%_, _≤_, _<_}
 use native.Mathlib.Omega.{arith}
-use mathlib.Core.Bool.{true, _&&_}
+use mathlib.Core.Bool.{true, _&&_, and-eq-true-iff}
 use mathlib.Core.List.{List, [], _∷_, _++_}
 use mathlib.Core.Logic.{_⊎_, inl, inr}
-use lib.Dec.{leb, eqb}
-use borrow.Author.Tests.{le-leb, leb-true}
+use lib.Dec.{eqb}
+use borrow.Author.Tests.{le-leb}
 use Rattle.rules.specs.Basics.{within}
 use Rattle.rules.specs.Records.{codeOk}
+use Rattle.rules.proofs.Bounds.{within-low, within-high}
 use Rattle.leaflet.specs.Utf8.{more, utf8}
 use Rattle.leaflet.specs.Items.{Item, char, tag, itemBytes}
 use Rattle.leaflet.specs.Decoding.{Next, nothing, found, low, high, goesOn, second, two, three}
-use Rattle.leaflet.proofs.Facts.{tested, both}
-use Rattle.leaflet.proofs.Codes.{ordered, below, above, one-byte, two-bytes, three-bytes}
+use Rattle.leaflet.proofs.Facts.{tested, ordered}
+use Rattle.leaflet.proofs.Codes.{below, above, one-byte, two-bytes, three-bytes}
 
 -- an item that a text can hold: a scalar value or a tag
 abbrev pub Good : Item → Type 0
@@ -25,10 +26,10 @@ abbrev pub Right : List ℕ → Next → Type 0
 Right bs nothing = Unit {0}
 Right bs (found i ds) = (itemBytes i ++ ds ≡ bs) × Good i
 
--- Characters --------------------------------------------------------------------------------------------------------
+-- Characters ------------------------------------------------------------------------------------------------------
 
 pub limits : (lo hi x : ℕ) → within lo hi x ≡ true → (lo ≤ x) × (x ≤ hi)
-limits lo hi x e = let p = both (leb lo x) (leb x hi) e in (leb-true lo x (p .0), leb-true x hi (p .1))
+limits lo hi x e = (within-low lo hi x e, within-high lo hi x e)
 
 pub low-least : (b : ℕ) → 0x80 ≤ low b
 low-least b =
@@ -67,7 +68,8 @@ two-right b (x ∷ bs) h k =
       | inr e ↦ rw e tt
     ]
 
-module _ (b x y : ℕ) (hb : 0xE0 ≤ b) (kb : b ≤ 0xEF) (hx : low b ≤ x) (kx : x ≤ high b) (hy : 0x80 ≤ y) (ky : y ≤ 0xBF) where
+module _ (b x y : ℕ) (hb : 0xE0 ≤ b) (kb : b ≤ 0xEF) (hx : low b ≤ x) (kx : x ≤ high b)
+    (hy : 0x80 ≤ y) (ky : y ≤ 0xBF) where
   three-code : ℕ
   three-code = (b - 224) * 4096 + (x - 128) * 64 + (y - 128)
 
@@ -112,7 +114,7 @@ three-right b (x ∷ []) h k = tt
 three-right b (x ∷ y ∷ bs) h k =
     elim (tested (second b x && goesOn y)) [
       | inl e ↦
-          let p = both (second b x) (goesOn y) e in
+          let p = and-eq-true-iff (second b x) (goesOn y) .0 e in
           let l = limits (low b) (high b) x (p .0) in
           let m = limits 0x80 0xBF y (p .1) in
           let u = high-most b in

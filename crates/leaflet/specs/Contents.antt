@@ -34,8 +34,8 @@ bracket c = eqb c 60 || eqb c 62 || eqb c 38
 unfoldable pub text : ℕ → Bool
 text c = codeOk c && not (bracket c)
 
--- "A base or plain character in no list of Req 04 is refused", and "every other angle bracket or ampersand" too, though
--- the list of Western characters has them
+-- "A base or plain character in no list .. is refused", and "every other angle bracket or ampersand" too, though the
+-- list of Western characters has them
 unfoldable pub plain : ℕ → Bool
 plain c = text c && listed c
 

@@ -1,4 +1,4 @@
--- The reader's first half: the item that bytes start with. `Claims` says what that is without it.
+-- The reader's first half: the item that bytes start with. proofs/Claims.antt says what that is without it.
 --
 --   low, high    the second byte's range, by the first byte (Unicode 15.1, table 3-7)
 --   strip        what follows some bytes, where a text starts with them
@@ -6,7 +6,7 @@
 --
 -- Assumes nothing.
 use Prim.Native.Nat.{ℕ, _+_, _*_, _-_}
-use mathlib.Core.Bool.{Bool, true, false, cond, _&&_}
+use mathlib.Core.Bool.{Bool, cond, _&&_}
 use mathlib.Core.List.{List, [], _∷_}
 use mathlib.Core.Option.{Option, none, some}
 use lib.Dec.{eqb, ltb}

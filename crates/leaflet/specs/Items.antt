@@ -1,4 +1,4 @@
--- request 05: what a text is made of, and its bytes.
+-- Document 02, request 05: what a text is made of, and its bytes.
 --
 --   tag          one of six, "bare lower-case tags, end tags written out"
 --   item         a character, by its code point, or a tag

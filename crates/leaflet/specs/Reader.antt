@@ -1,24 +1,25 @@
--- The reader: item by item, from the text's start. `Claims` says what it gives without it.
+-- The reader: item by item, from the text's start. proofs/Claims.antt says what it gives without it.
 --
---   scan         answer 17's place, or none, of what is left of a text: n bounds its length, q is the spot, k the offset
---   faultFrom    the same, with the bound that is always enough; `faultIn` of a whole text
---   itemsOf      the items that a text starts with
---   gathered     items read from the last to the first: the characters since the last tag, the count of the rt since the
---                last ruby element, and the parts
+--   scan         answer 17's place, or none, of what is left of a text: n bounds its length, q is the spot, k the
+--                offset
+--   fault from   the same, with the bound that is always enough; `faultIn` of a whole text
+--   items of     the items that a text starts with, as many as a bound; `itemsFrom` with one that is always enough
+--   gathered     items read from the last to the first: the characters since the last tag, the count of the rt since
+--                the last ruby element, and the parts
 --   read         a text's parts, or its fault
 --   words in     the words of the records of a text's parts: all that an import hands to edit
 --
 -- Assumes nothing.
 use Prim.Native.Nat.{ℕ, zero, suc, _+_}
 use mathlib.Core.Bool.{Bool, true, false, cond, _&&_}
-use mathlib.Core.List.{List, [], _∷_, _++_}
+use mathlib.Core.List.{List, [], _∷_}
 use mathlib.Core.Option.{Option, none, some}
 use lib.ListN.{length}
-use Rattle.leaflet.specs.Items.{Item, char, tag, Tag, itemBytes}
 use Rattle.rules.specs.Records.{recordWords}
+use Rattle.leaflet.specs.Items.{Item, char, tag, Tag, itemBytes}
 use Rattle.leaflet.specs.Contents.{Part, character, annotated}
 use Rattle.leaflet.specs.Imported.{importedRecords}
-use Rattle.leaflet.specs.Decoding.{Next, nothing, found, next}
+use Rattle.leaflet.specs.Decoding.{nothing, found, next}
 use Rattle.leaflet.specs.Spots.{Spot, outside, step, isOutside}
 
 abbrev pub isEmpty : List ℕ → Bool

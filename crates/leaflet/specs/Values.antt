@@ -3,17 +3,19 @@
 --
 -- Assumes nothing.
 use mathlib.Core.Path.{_≡_}
-use mathlib.Core.Bool.{Bool, true, cond}
 use Prim.Native.Nat.{ℕ, _+_, _≤_, _<_}
+use mathlib.Core.Bool.{Bool, true, cond}
 use mathlib.Core.List.{List, []}
 use mathlib.Core.Option.{Option, none, some}
 use lib.ListN.{length, take, drop}
-use Rattle.rules.specs.Records.{recordWords}
 use lib.Seq.{sets}
+use Rattle.rules.specs.Records.{recordWords}
 use Rattle.leaflet.specs.Items.{Tag, char, tag}
 use Rattle.leaflet.specs.Decoding.{Next, nothing, found, strip}
 use Rattle.leaflet.specs.Spots.{Spot, outside, opened, in-base, bare-opened, in-bare, in-first, rt-due}
 use Rattle.leaflet.specs.Spots.{fenced-opened, in-fenced, rp-due, in-last, closing, letters, step}
+use Rattle.leaflet.specs.Reader.{faultFrom, faultIn, wordsIn}
+use Rattle.leaflet.specs.Written.{toward, kept}
 use Rattle.leaflet.specs.declared.spots.Tag.{Tag as TagValue}
 use Rattle.leaflet.specs.declared.spots.Tag.the-variants.{Ruby, RubyEnd, Rt, RtEnd, Rp, RpEnd}
 use Rattle.leaflet.specs.declared.spots.Spot.{Spot as SpotValue}
@@ -27,12 +29,10 @@ use Rattle.leaflet.specs.declared.reader.Ahead.{Ahead}
 use Rattle.leaflet.specs.declared.reader.Ahead.the-variants.{Stopped, Past}
 use Rattle.leaflet.specs.declared.reader.Outcome.{Outcome}
 use Rattle.leaflet.specs.declared.reader.Outcome.the-variants.{Whole, Fault}
-use Rattle.leaflet.specs.Reader.{faultFrom, faultIn, wordsIn}
 use Rattle.leaflet.specs.declared.reader.Reading.{Reading}
 use Rattle.leaflet.specs.declared.reader.Reading.the-variants.{Fault as FaultAt, Words}
 use Rattle.leaflet.specs.declared.records.Put.{Put}
 use Rattle.leaflet.specs.declared.records.Put.the-variants.{Refused as PutRefused, Full, Next as NextAt}
-use Rattle.leaflet.specs.Written.{toward, kept}
 
 abbrev pub tagOf : TagValue → Tag
 tagOf Ruby = Tag.ruby

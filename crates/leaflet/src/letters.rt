@@ -12,7 +12,7 @@ pub(crate) fn is_text(c: u32) -> bool
     (c <= 0x10FFFF) & !((0xD800 <= c) & (c <= 0xDFFF)) & !((c == 60) | (c == 62) | (c == 38))
 }
 
-// Outside them: the class of a character that may stand there, or 0.
+// Outside them: the class of a character that may stand there, or 0. Brackets and ampersands have a class, and may not.
 pub(crate) fn plain_class(c: u32) -> u32
     ensures { λ r. ⌜ r ≡ cond (plain c) (classOf c) 0 ⌝ }
 {

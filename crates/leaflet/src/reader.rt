@@ -17,7 +17,9 @@ use crate::spots::after_tag;
 use crate::spots::is_outside;
 use crate::spots::past_letter;
 
+// What lies ahead of an offset.
 pub(crate) enum Ahead {
+    // no item that may stand there
     Stopped,
     // past an item: the next spot, and the item's bytes
     Past(Spot, usize),
@@ -30,6 +32,7 @@ pub(crate) enum Outcome {
     Fault(usize),
 }
 
+// What a text is read as.
 pub enum Reading {
     // the offset that answer 17 names
     Fault(usize),
@@ -37,6 +40,7 @@ pub enum Reading {
     Words(usize),
 }
 
+// Past an item of some bytes, if it may stand where it stands.
 fn past(step: Step, width: usize) -> Ahead
     ensures { λ r. ⌜ r ≡ pastOf step width ⌝ }
 {
@@ -46,6 +50,7 @@ fn past(step: Step, width: usize) -> Ahead
     }
 }
 
+// What lies ahead of an offset, for a reader at a spot.
 fn look(s: &[u8], at: usize, q: Spot) -> Ahead
     requires { ⌜ at < length (now s) ⌝ }
     ensures { λ r. ⌜ AheadAt (now (s .entry)) at (spotOf q) r ⌝ }

@@ -40,6 +40,7 @@ fn advance_of(class: u32, size: u32) -> u32
     }
 }
 
+// Puts the six words of a record. A function of its own, so that its stores are told by one equation.
 fn put_record(
     words: &mut [u32],
     i: usize,
@@ -62,15 +63,17 @@ fn put_record(
     words[i + 5] = n;
 }
 
+// What came of a character.
 pub(crate) enum Put {
     // the character may not stand at this spot
     Refused,
+    // it may, and there is no room for its record
     Full,
     // its record is put, if it has one: where the next one goes
     Next(usize),
 }
 
-// A character without a record.
+// A character without a record, as rt and rp have them.
 fn passed(step: Step, i: usize) -> Put
     ensures { λ r. ⌜ r ≡ passedAs step i ⌝ }
 {

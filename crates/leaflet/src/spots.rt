@@ -1,9 +1,9 @@
 // Where in the markup a reader stands, and where an item leads.
 ghost use mathlib.Core.Path.{_≡_};
 ghost use mathlib.Core.List.{[], _∷_};
-ghost use Rattle.leaflet.specs.Items.{char};
-ghost use Rattle.leaflet.specs.Items.{tag as tagItem};
-ghost use Rattle.leaflet.specs.Spots.{in-base, letters, wantsPlain, allowed, tagNumber, find, tags, step, isOutside};
+ghost use Rattle.leaflet.specs.Items.{char, tag as tagItem};
+ghost use Rattle.leaflet.specs.Spots.{in-base, letters, wantsPlain, allowed, tagNumber, find, tags, step};
+ghost use Rattle.leaflet.specs.Spots.{isOutside};
 ghost use Rattle.leaflet.specs.Values.{tagOf, spotOf, stepOf};
 ghost use Rattle.leaflet.specs.Written.{toward};
 use crate::letters::is_text;
@@ -20,16 +20,22 @@ pub(crate) enum Tag {
 
 pub(crate) enum Spot {
     Outside,
+    // after <ruby>, and in the base text
     Opened,
     InBase,
+    // after the <rt> that no rp stands before, and in it
     BareOpened,
     InBare,
+    // in the rp before the rt, and after it
     InFirst,
     RtDue,
+    // after the <rt> that an rp stands before, in it, and after it
     FencedOpened,
     InFenced,
     RpDue,
+    // in the rp after the rt
     InLast,
+    // before </ruby>
     Closing,
 }
 
@@ -68,7 +74,7 @@ pub(crate) fn past_letter(q: Spot) -> Spot
     }
 }
 
-// A base or plain character is wanted.
+// Whether a character that stands here is a base or plain one.
 pub(crate) fn wants_plain(q: Spot) -> bool
     ensures { λ r. ⌜ r ≡ wantsPlain (spotOf q) ⌝ }
 {
@@ -88,6 +94,7 @@ pub(crate) fn wants_plain(q: Spot) -> bool
     }
 }
 
+// Whether a character may stand at a spot, if one may.
 fn is_allowed(q: Spot, c: u32) -> bool
     ensures { λ r. ⌜ r ≡ allowed (spotOf q) c ⌝ }
 {
@@ -109,6 +116,7 @@ pub(crate) fn after_char(q: Spot, c: u32) -> Step
     }
 }
 
+// A tag as a number: an enum's values are compared by their numbers.
 pub(crate) fn tag_number(t: Tag) -> u8
     ensures { λ r. ⌜ r ≡ tagNumber (tagOf t) ⌝ }
 {
@@ -133,6 +141,7 @@ fn only(t: Tag, u: Tag, p: Spot) -> Step
     }
 }
 
+// After a base text either of two tags may stand.
 fn rt_or_rp(t: Tag) -> Step
     ensures { λ r. ⌜ stepOf r ≡ find (tagOf t) (tags in-base) ⌝ }
 {
@@ -163,6 +172,7 @@ pub(crate) fn after_tag(q: Spot, t: Tag) -> Step
     }
 }
 
+// No ruby element is open.
 pub(crate) fn is_outside(q: Spot) -> bool
     ensures { λ r. ⌜ r ≡ isOutside (spotOf q) ⌝ }
 {

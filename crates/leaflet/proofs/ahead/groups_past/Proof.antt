@@ -1,8 +1,8 @@
 -- `leaflet::ahead::groups_past` meets its contract. Assumes nothing.
 use mathlib.Core.Path.{sym, _∙_}
-use Rattle.leaflet.proofs.TagTests.{is-ruby, no-ruby}
 use native.Mathlib.Omega.{arith}
 use borrow.Author.Needs.{needs}
+use Rattle.leaflet.proofs.TagTests.{is-ruby, no-ruby}
 use Rattle.leaflet.proofs.ahead.groups_past.Statement.{statement}
 use Rattle.leaflet.proofs.ahead.groups_past.Tie as tie
 

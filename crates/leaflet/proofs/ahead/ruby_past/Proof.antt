@@ -1,7 +1,7 @@
 -- `leaflet::ahead::ruby_past` meets its contract. Assumes nothing.
 use mathlib.Core.Path.{sym, _∙_}
-use Rattle.leaflet.proofs.TagTests.{is-ruby, no-ruby}
 use borrow.Author.Needs.{needs}
+use Rattle.leaflet.proofs.TagTests.{is-ruby, no-ruby}
 use Rattle.leaflet.proofs.ahead.ruby_past.Statement.{statement}
 use Rattle.leaflet.proofs.ahead.ruby_past.Tie as tie
 

@@ -1,7 +1,7 @@
 -- `leaflet::letters::is_text` meets its contract. Assumes nothing.
-use Rattle.leaflet.specs.Contents.{text}
-use Rattle.rules.specs.Records.{codeOk}
 use mathlib.Core.Path.{refl}
+use Rattle.rules.specs.Records.{codeOk}
+use Rattle.leaflet.specs.Contents.{text}
 use Rattle.leaflet.proofs.letters.is_text.Statement.{statement}
 use Rattle.leaflet.proofs.letters.is_text.Tie as tie
 

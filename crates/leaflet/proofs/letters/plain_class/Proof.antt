@@ -1,7 +1,7 @@
 -- `leaflet::letters::plain_class` meets its contract. Assumes nothing.
 use mathlib.Core.Path.{sym, _∙_}
-use Rattle.leaflet.proofs.PlainClass.{plain-class, plain-none}
 use borrow.Author.Needs.{needs}
+use Rattle.leaflet.proofs.PlainClass.{plain-class, plain-none}
 use Rattle.leaflet.proofs.letters.plain_class.Statement.{statement}
 use Rattle.leaflet.proofs.letters.plain_class.Tie as tie
 

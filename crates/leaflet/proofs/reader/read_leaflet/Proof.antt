@@ -1,13 +1,13 @@
 -- `leaflet::reader::read_leaflet` meets its contract. Assumes nothing.
-use mathlib.Core.Path.{refl, sym, _∙_}
+use mathlib.Core.Path.{sym, _∙_}
 use Prim.Native.Nat.{_-_}
 use native.Mathlib.Omega.{arith}
 use lib.ListN.{length}
 use borrow.Author.Needs.{needs}
 use Rattle.leaflet.specs.Values.{spotOf}
 use Rattle.leaflet.proofs.Aheads.{on-letter, on-markup}
-use Rattle.leaflet.proofs.ReadLoop.{Loop, loop-start, loop-letter, loop-tag, loop-nothing, loop-refused}
-use Rattle.leaflet.proofs.ReadLoop.{loop-astray, loop-open, loop-end, loop-full}
+use Rattle.leaflet.proofs.ReadLoop.{Loop, loop-start, loop-letter, loop-tag}
+use Rattle.leaflet.proofs.ReadEnds.{loop-nothing, loop-refused, loop-astray, loop-open, loop-end, loop-full}
 use Rattle.leaflet.proofs.reader.read_leaflet.Statement.{statement}
 use Rattle.leaflet.proofs.reader.read_leaflet.Tie as tie
 

@@ -1,7 +1,5 @@
 -- `leaflet::records::advance_of` meets its contract. Assumes nothing.
-use Rattle.leaflet.specs.Imported.{advanceOf}
 use Rattle.leaflet.proofs.Advances.{advance-half, advance-full}
-use borrow.Author.Needs.{needs}
 use Rattle.leaflet.proofs.records.advance_of.Statement.{statement}
 use Rattle.leaflet.proofs.records.advance_of.Tie as tie
 

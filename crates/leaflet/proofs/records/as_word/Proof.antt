@@ -1,7 +1,7 @@
 -- `leaflet::records::as_word` meets its contract. Assumes nothing.
 use borrow.Author.Tests.{lt-ltb, le-ltb}
-use Rattle.leaflet.specs.Imported.{asWord}
 use borrow.Author.Needs.{needs}
+use Rattle.leaflet.specs.Imported.{asWord}
 use Rattle.leaflet.proofs.records.as_word.Statement.{statement}
 use Rattle.leaflet.proofs.records.as_word.Tie as tie
 

@@ -42,7 +42,7 @@ returns-4 c =
     let w = n .before .before in
     put-put _ _ _ _ _ (sym (w .before .wants-plain .ensures) ∙ not-false _ (w .if1 .left)) _
     (n .before .plain-class .ensures) (n .if2 .left) (omega arith)
-    (p .put-record .ensures ∙ rw (a .advance-of .ensures, g .in-group .ensures, p .before .in-group2 .ensures))
+    (rw (← a .advance-of .ensures, ← g .in-group .ensures, ← p .before .in-group2 .ensures) (p .put-record .ensures))
 
 pub put-letter-spec : {M : Type 1} → statement M
 put-letter-spec =

@@ -1,7 +1,7 @@
 -- `leaflet::records::put_record` meets its contract. Assumes nothing.
-use lib.ListN.{length-set}
 use native.Mathlib.Omega.{arith}
 use native.Mathlib.Numerals.{unary-clauses}
+use lib.ListN.{length-set}
 use borrow.Author.Needs.{needs}
 use Rattle.leaflet.proofs.records.put_record.Statement.{statement}
 use Rattle.leaflet.proofs.records.put_record.Tie as tie

@@ -1,6 +1,6 @@
 -- `leaflet::spots::is_allowed` meets its contract. Assumes nothing.
-use Rattle.leaflet.proofs.PlainClass.{plain-known}
 use borrow.Author.Needs.{needs}
+use Rattle.leaflet.proofs.PlainClass.{plain-known}
 use Rattle.leaflet.proofs.spots.is_allowed.Statement.{statement}
 use Rattle.leaflet.proofs.spots.is_allowed.Tie as tie
 
