@@ -19,7 +19,7 @@ use Rattle.leaflet.proofs.Gathers.{parts-spelt}
 use Rattle.leaflet.proofs.Scans.{Passed, scanned}
 use Rattle.leaflet.proofs.Places.{accepted-end, passed-longest, longest-only, items-again}
 
-is-outside : (q : Spot) → isOutside q ≡ true → q ≡ outside
+pub is-outside : (q : Spot) → isOutside q ≡ true → q ≡ outside
 is-outside outside e = refl
 is-outside opened e = no-way (cc)
 is-outside in-base e = no-way (cc)

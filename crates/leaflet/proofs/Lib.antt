@@ -35,7 +35,9 @@ pub mod Walks
 pub mod Walked
 pub mod Aheads
 pub mod Counts
+pub mod Rubied
 pub mod Puts
+pub mod Held
 pub mod ReadLoop
 pub mod ReadEnds
 -- What comes of it: texts worked by hand, and the claims.

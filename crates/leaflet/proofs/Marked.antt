@@ -37,12 +37,12 @@ ahead-over (fenced p t q) is =
 module _ (s : ℕ) where
   -- one item
   module _ {q p : Spot} (k n : ℕ) where
-    char-step : {c : ℕ} (is : List Item) → Move q (char c) p →
+    pub char-step : {c : ℕ} (is : List Item) → Move q (char c) p →
         written s q k n (char c ∷ is) ≡ kept s q k n c (written s p k n is)
     unfolding written
     char-step is m = rw (move-step m)
 
-    tag-step : {t : Tag} (is : List Item) → Move q (tag t) p →
+    pub tag-step : {t : Tag} (is : List Item) → Move q (tag t) p →
         written s q k n (tag t ∷ is) ≡ written s p (ifRuby t (suc k) k) (ifRuby t (rtAhead is) n) is
     unfolding written
     tag-step is m = rw (move-step m)

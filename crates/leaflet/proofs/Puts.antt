@@ -77,7 +77,7 @@ module _ {d e : List ℕ} {i : ℕ} (s : ℕ) (q : Spot) (k n c : ℕ) where
         refused (rw (w, f))
 
     pub put-full : e ≡ d → i ≤ 1542 → 1542 - i < 6 → Putting d e i s q k n c Full
-    put-full z h l = full z (omega arith)
+    put-full z h l = full w z (omega arith)
 
     pub put-put : (class ≡ 0 → ⊥) → i + 6 ≤ 1542 →
         e ≡ sets d i (c ∷ class ∷ s ∷ advanceOf class s ∷ inGroup q k ∷ inGroup q n ∷ []) →

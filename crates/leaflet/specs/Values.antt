@@ -13,7 +13,7 @@ use Rattle.rules.specs.Records.{recordWords}
 use Rattle.leaflet.specs.Items.{Tag, char, tag}
 use Rattle.leaflet.specs.Decoding.{Next, nothing, found, strip}
 use Rattle.leaflet.specs.Spots.{Spot, outside, opened, in-base, bare-opened, in-bare, in-first, rt-due}
-use Rattle.leaflet.specs.Spots.{fenced-opened, in-fenced, rp-due, in-last, closing, letters, step}
+use Rattle.leaflet.specs.Spots.{fenced-opened, in-fenced, rp-due, in-last, closing, wantsPlain, letters, step}
 use Rattle.leaflet.specs.Reader.{faultFrom, faultIn, wordsIn}
 use Rattle.leaflet.specs.Written.{toward, kept}
 use Rattle.leaflet.specs.declared.spots.Tag.{Tag as TagValue}
@@ -119,7 +119,7 @@ wordsOf s q k n c = recordWords (kept s q k n c [])
 -- or there is no room
 pub data Putting (d e : List ℕ) (i s : ℕ) (q : Spot) (k n c : ℕ) : Put → Type 0 where
   refused : step q (char c) ≡ none → Putting d e i s q k n c PutRefused
-  full : e ≡ d → 1542 < i + 6 → Putting d e i s q k n c Full
+  full : wantsPlain q ≡ true → e ≡ d → 1542 < i + 6 → Putting d e i s q k n c Full
   put : {j : ℕ} → step q (char c) ≡ some (toward (letters q)) → j ≡ i + length (wordsOf s q k n c) →
       e ≡ sets d i (wordsOf s q k n c) → i + length (wordsOf s q k n c) ≤ 1542 → Putting d e i s q k n c (NextAt j)
 

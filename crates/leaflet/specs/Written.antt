@@ -4,16 +4,20 @@
 --   letter run   the characters before the next tag
 --   rt ahead     the character count of the next rt
 --   written      the records of items of size s: k groups are begun, the last with n ruby characters
+--   due          the ruby count of the last group, of whose rt n characters have been read
+--   rubied       words of m records from index g on, with n as their ruby counts
 --
 -- Assumes nothing.
-use Prim.Native.Nat.{ℕ, suc}
-use mathlib.Core.Bool.{cond}
+use Prim.Native.Nat.{ℕ, zero, suc, _+_}
+use mathlib.Core.Bool.{Bool, true, false, cond}
 use mathlib.Core.List.{List, [], _∷_}
 use mathlib.Core.Option.{Option, none, some}
+use lib.ListN.{set}
 use Rattle.rules.specs.Records.{Rec}
 use Rattle.leaflet.specs.Items.{Item, char, tag, Tag}
 use Rattle.leaflet.specs.Imported.{asWord, recordOf}
-use Rattle.leaflet.specs.Spots.{Spot, outside, wantsPlain, isOutside, step}
+use Rattle.leaflet.specs.Spots.{Spot, outside, opened, in-base, bare-opened, in-bare, in-first, rt-due}
+use Rattle.leaflet.specs.Spots.{fenced-opened, in-fenced, rp-due, in-last, closing, wantsPlain, isOutside, step}
 
 unfoldable pub letterRun : List Item → ℕ
 letterRun [] = 0
@@ -58,3 +62,44 @@ written s q k n [] = []
 written s q k n (char c ∷ is) = kept s q k n c (written s (toward (step q (char c))) k n is)
 written s q k n (tag t ∷ is) =
     written s (toward (step q (tag t))) (ifRuby t (suc k) k) (ifRuby t (rtAhead is) n) is
+
+-- where a character of an rt stands
+abbrev pub inRt : Spot → Bool
+inRt outside = false
+inRt opened = false
+inRt in-base = false
+inRt bare-opened = true
+inRt in-bare = true
+inRt in-first = false
+inRt rt-due = false
+inRt fenced-opened = true
+inRt in-fenced = true
+inRt rp-due = false
+inRt in-last = false
+inRt closing = false
+
+abbrev pub due : Spot → ℕ → List Item → ℕ
+due outside n is = n
+due opened n is = rtAhead is
+due in-base n is = rtAhead is
+due bare-opened n is = n + letterRun is
+due in-bare n is = n + letterRun is
+due in-first n is = rtAhead is
+due rt-due n is = rtAhead is
+due fenced-opened n is = n + letterRun is
+due in-fenced n is = n + letterRun is
+due rp-due n is = n
+due in-last n is = n
+due closing n is = n
+
+abbrev pub ifRtEnd : {A : Type 0} → Tag → A → A → A
+ifRtEnd Tag.ruby a b = b
+ifRtEnd Tag.ruby-end a b = b
+ifRtEnd Tag.rt a b = b
+ifRtEnd Tag.rt-end a b = a
+ifRtEnd Tag.rp a b = b
+ifRtEnd Tag.rp-end a b = b
+
+unfoldable pub rubied : ℕ → ℕ → ℕ → List ℕ → List ℕ
+rubied zero g n ws = ws
+rubied (suc m) g n ws = rubied m (g + 6) n (set ws (g + 5) n)

@@ -1,5 +1,6 @@
 // Document 02, request 05: UTF-8 text with ruby, rt and rp, read into the words of records.
 mod ahead;
+mod groups;
 mod items;
 mod letters;
 mod reader;

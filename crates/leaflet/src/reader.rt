@@ -4,11 +4,17 @@ ghost use Prim.Native.Nat.{_<_, _≤_};
 ghost use lib.ListN.{length, drop};
 ghost use Rattle.leaflet.specs.Reader.{faultFrom};
 ghost use Rattle.leaflet.specs.Values.{spotOf, pastOf, AheadAt, outcomeOf, filledAs, ReadAs};
-use crate::ahead::groups_past;
-use crate::ahead::ruby_past;
+use crate::ahead::rt_ahead;
+use crate::groups::groups_past;
+use crate::groups::put_ruby;
+use crate::groups::ruby_counted;
+use crate::groups::ruby_past;
+use crate::groups::settle;
+use crate::groups::start_past;
 use crate::items::Found;
 use crate::items::item_at;
 use crate::records::Put;
+use crate::records::as_word;
 use crate::records::put_letter;
 use crate::spots::Spot;
 use crate::spots::Step;
@@ -103,18 +109,24 @@ pub fn read_leaflet(s: &[u8], size: u32, words: &mut [u32; 1542]) -> Reading
     let out = &mut words[..];
     let mut q = Spot::Outside;
     let mut at = 0;
-    // groups begun, the ruby count of the last, words put
+    // groups begun, ruby characters of the last, words put, and up to which they have their ruby counts
     let mut k = 0;
     let mut n = 0;
     let mut i = 0;
+    let mut g = 0;
     while at < s.len() {
         match item_at(s, at) {
             Found::Nothing => return Reading::Fault(at),
-            Found::Letter(c, width) => match put_letter(out, i, q, c, size, k, n) {
+            Found::Letter(c, width) => match put_letter(out, i, q, c, size, k, 0) {
                 Put::Refused => return Reading::Fault(at),
-                Put::Full => return filled(fault_from(s, at, q), i),
+                Put::Full => {
+                    put_ruby(out, g, i, as_word(rt_ahead(s, at)));
+                    return filled(fault_from(s, at, q), i);
+                }
                 Put::Next(j) => {
                     i = j;
+                    n = ruby_counted(q, n);
+                    g = start_past(q, g, j);
                     q = past_letter(q);
                     at += width;
                 }
@@ -122,10 +134,11 @@ pub fn read_leaflet(s: &[u8], size: u32, words: &mut [u32; 1542]) -> Reading
             Found::Markup(t, width) => match after_tag(q, t) {
                 Step::Refused => return Reading::Fault(at),
                 Step::To(p) => {
-                    at += width;
+                    g = settle(out, t, g, i, n);
                     k = groups_past(t, k);
-                    n = ruby_past(s, at, t, n);
+                    n = ruby_past(t, n);
                     q = p;
+                    at += width;
                 }
             },
         }

@@ -15,7 +15,7 @@ use crate::spots::is_outside;
 use crate::spots::wants_plain;
 
 // A count as a word; what is beyond 32 bits stands as the largest.
-fn as_word(n: usize) -> u32
+pub(crate) fn as_word(n: usize) -> u32
     ensures { λ r. ⌜ r ≡ asWord n ⌝ }
 {
     if n < 4294967296 { n as u32 } else { 4294967295 }

@@ -5,7 +5,7 @@ ghost use Rattle.leaflet.specs.Items.{char, tag as tagItem};
 ghost use Rattle.leaflet.specs.Spots.{in-base, letters, wantsPlain, allowed, tagNumber, find, tags, step};
 ghost use Rattle.leaflet.specs.Spots.{isOutside};
 ghost use Rattle.leaflet.specs.Values.{tagOf, spotOf, stepOf};
-ghost use Rattle.leaflet.specs.Written.{toward};
+ghost use Rattle.leaflet.specs.Written.{toward, inRt};
 use crate::letters::is_text;
 use crate::letters::plain_class;
 
@@ -71,6 +71,26 @@ pub(crate) fn past_letter(q: Spot) -> Spot
     match lettered(q) {
         Step::To(p) => p,
         Step::Refused => Spot::Outside,
+    }
+}
+
+// Whether a character that stands here is one of an rt.
+pub(crate) fn in_rt(q: Spot) -> bool
+    ensures { λ r. ⌜ r ≡ inRt (spotOf q) ⌝ }
+{
+    match q {
+        Spot::Outside => false,
+        Spot::Opened => false,
+        Spot::InBase => false,
+        Spot::BareOpened => true,
+        Spot::InBare => true,
+        Spot::InFirst => false,
+        Spot::RtDue => false,
+        Spot::FencedOpened => true,
+        Spot::InFenced => true,
+        Spot::RpDue => false,
+        Spot::InLast => false,
+        Spot::Closing => false,
     }
 }
 

@@ -1,10 +1,10 @@
--- `leaflet::ahead::groups_past` meets its contract. Assumes nothing.
+-- `leaflet::groups::groups_past` meets its contract. Assumes nothing.
 use mathlib.Core.Path.{sym, _∙_}
 use native.Mathlib.Omega.{arith}
 use borrow.Author.Needs.{needs}
 use Rattle.leaflet.proofs.TagTests.{is-ruby, no-ruby}
-use Rattle.leaflet.proofs.ahead.groups_past.Statement.{statement}
-use Rattle.leaflet.proofs.ahead.groups_past.Tie as tie
+use Rattle.leaflet.proofs.groups.groups_past.Statement.{statement}
+use Rattle.leaflet.proofs.groups.groups_past.Tie as tie
 
 returns : tie.Need-returns
 returns c = rw (is-ruby _ _ _ (sym (c .before .tag-number .ensures) ∙ c .if1 .taken)) (omega arith)
