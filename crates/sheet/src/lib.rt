@@ -89,7 +89,13 @@ pub fn edit(
     }
     let start = 2824 * slot.0 as usize;
     let end = start + 2824;
-    edit_slot(&mut sheet[start..end], place, deleted, &inserted[..])
+    // lent and told anew, so that a refusal above waits for no memory
+    let answer = edit_slot(&mut sheet[start..end], place, deleted, &inserted[..]);
+    EditAnswer {
+        number: answer.number,
+        place: answer.place,
+        redone: answer.redone,
+    }
 }
 
 // The number of a read: 0, or why it is refused.
