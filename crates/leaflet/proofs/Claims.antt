@@ -1,5 +1,5 @@
--- What is proved of leaflets (document 02, request 05), in reading order: of texts and answer 17's place, which speak of
--- no reader; of the records that an import hands to edit; of the reader; and of the program. The definitions that the
+-- What is proved of leaflets (document 02, request 05), in reading order: of texts and answer 17's place, which speak
+-- of no reader; of the records that an import hands to edit; of the reader; and of the program. The definitions that the
 -- statements name are those of specs/Utf8, Items, Contents, Faults and Imported; `firstChar` of proofs/Nexts, the rows
 -- of Unicode's table; and, from the reader on, `read`, `faultIn` and `wordsIn` of specs/Reader. Assumes nothing.
 use mathlib.Core.Path.{_≡_, sym, ap, _∙_}
@@ -62,8 +62,8 @@ never-both bs k a f = f .refused a
 pub one-place : (bs : List ℕ) (j k : ℕ) → Fault bs j → Fault bs k → j ≡ k
 one-place bs j k f g = place-only f g
 
--- at the place stands the text's end, "a character, tag .. that no accepted text has after the same beginning", or bytes
--- that start none: a bracket of no tag, an ill-formed sequence
+-- at the place stands the text's end, "a character, tag .. that no accepted text has after the same beginning", or
+-- bytes that start none: a bracket of no tag, an ill-formed sequence
 pub fault-stands : (bs : List ℕ) (k : ℕ) (f : Fault bs k) → Standing (f .passed) (f .last .left)
 fault-stands bs k f = standing (f .last)
 

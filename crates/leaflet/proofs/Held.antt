@@ -150,7 +150,8 @@ module _ {s : ℕ} {all out : List ℕ} where
               ap (λ m. take m e) e₁ ∙ ap (take (i + length ws)) e₂ ∙ put-there out ws i room
               ∙ ap (λ v. v ++ ws) (h .there) ∙ append-assoc (take g out) (recordWords (map (f 0) b)) ws
               ∙ ap (λ v. take g out ++ (recordWords (map (f 0) b) ++ v)) words
-              ∙ ap (λ v. take g out ++ v) (sym (bases 0)) ∙ ap (λ v. v ++ recordWords (map (f 0) (b ++ (c ∷ [])))) (sym start);
+              ∙ ap (λ v. take g out ++ v) (sym (bases 0))
+              ∙ ap (λ v. v ++ recordWords (map (f 0) (b ++ (c ∷ [])))) (sym start);
           whole =
               ap (λ v. v ++ recordWords (map (f (asWord N)) (b ++ (c ∷ [])) ++ W)) start
               ∙ ap (λ v. take g out ++ recordWords (v ++ W)) (map-append (f (asWord N)) b (c ∷ []))

@@ -30,7 +30,7 @@ pub mod Starts
 pub mod PlainClass
 pub mod TagTests
 pub mod Advances
--- The program, its loops: the fault from an offset on, the rt ahead, a record put, and a text read.
+-- The program, its loops: the fault from an offset on, the rt ahead, ruby counts and records put, and a text read.
 pub mod Walks
 pub mod Walked
 pub mod Aheads

@@ -1,5 +1,5 @@
-// The groups that ruby elements become: how many are begun, and the ruby count of the last. An rt stands after its base,
-// so a base's records are put without their ruby count, and get it when the rt ends.
+// The groups that ruby elements become: how many are begun, and the ruby count of the last. An rt stands after its
+// base, so a base's records are put without their ruby count, and get it when the rt ends.
 ghost use mathlib.Core.Path.{_≡_};
 ghost use mathlib.Core.Bool.{cond};
 ghost use Prim.Native.Nat.{suc, _-_, _/_, _%_, _≤_, _<_};

@@ -1,5 +1,5 @@
 -- `leaflet::groups::settle` meets its contract. Assumes nothing.
-use mathlib.Core.Path.{refl, sym, _∙_}
+use mathlib.Core.Path.{sym, _∙_}
 use borrow.Author.Needs.{needs}
 use Rattle.leaflet.proofs.TagTests.{is-rt-end, no-rt-end}
 use Rattle.leaflet.proofs.groups.settle.Statement.{statement}
@@ -15,9 +15,9 @@ returns c =
 
 returns-2 : tie.Need-returns-2
 returns-2 c = (
-      rw (no-rt-end _ _ _ (λ e. c .if1 .left (c .before .tag-number .ensures ∙ e))),
-      rw (no-rt-end _ _ _ (λ e. c .if1 .left (c .before .tag-number .ensures ∙ e))),
-    )
+  rw (no-rt-end _ _ _ (λ e. c .if1 .left (c .before .tag-number .ensures ∙ e))),
+  rw (no-rt-end _ _ _ (λ e. c .if1 .left (c .before .tag-number .ensures ∙ e))),
+)
 
 pub settle-spec : {M : Type 1} → statement M
 settle-spec =
