@@ -11,7 +11,7 @@ returns c =
     let a = p .before in
     let t = a .before .before in
     let ends = sym (t .before .tag-number .ensures) ∙ t .if1 .taken in
-    (rw (is-rt-end _ _ _ ends) (p .put-ruby .ensures ∙ rw (a .as-word .ensures)), rw (is-rt-end _ _ _ ends))
+    (rw (is-rt-end _ _ _ ends) (rw (← a .as-word .ensures) (p .put-ruby .ensures)), rw (is-rt-end _ _ _ ends))
 
 returns-2 : tie.Need-returns-2
 returns-2 c = (
