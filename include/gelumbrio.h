@@ -78,7 +78,7 @@ EditAnswer gelumbrio_edit(uint32_t *sheet, size_t sheet_length, Clinic caller, S
  * <rt>, the ruby text, </rt>, </ruby>; or with <rp>, any text or none, </rp> before the <rt> and again after the </rt>.
  * Tags are written just so. Neither base nor ruby text is empty, and nothing else stands in an element. Inside rt and
  * rp each code point but < > & may stand. Outside them a character stands that has a class (gelumbrio_class_of), and is
- * none of these three; so neither a space nor a line's end. The empty text is a leaflet.
+ * none of these three; so neither U+0020 nor a line's end. The empty text is a leaflet.
  *   Each character outside rt and rp becomes a record: its class as gelumbrio_class_of gives it, the size named here,
  * half of it as advance in the classes 1, 2, 3, 5, 6, 7 and 27 and all of it in the others. An element's base becomes a
  * group, numbered from 1 on, with as many ruby characters as its rt has code points. Then it is the edit at place 0
