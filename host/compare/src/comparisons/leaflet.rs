@@ -44,13 +44,13 @@ pub fn compare(program: &dyn Program, scope: Scope) -> Result<Tally, Failure> {
     Ok(tally)
 }
 
-/// All short texts: of the tags, a character of a list and one that may only stand in rt and rp; and, not so long,
-/// with what may stand nowhere besides.
+/// All short texts: of the tags, a character of a list, one that may only stand in rt and rp, and a byte that is none;
+/// and, not so long, with what may stand nowhere besides.
 fn short(slot: &mut OneSlot, scope: Scope) -> Result<(), Failure> {
-    let characters = ["あ", " "];
-    let elements: Vec<&[u8]> = TAGS.iter().chain(&characters).map(|element| element.as_bytes()).collect();
+    let others: [&[u8]; 3] = ["あ".as_bytes(), b" ", b"\x80"];
+    let elements: Vec<&[u8]> = TAGS.iter().map(|tag| tag.as_bytes()).chain(others).collect();
     all(slot, &elements, scope.choose(7, 5), &mut Vec::new())?;
-    let nowhere: [&[u8]; 6] = [b"<", b">", b"&", b"<RT>", b"\xE3\x81", b"\x80"];
+    let nowhere: [&[u8]; 5] = [b"<", b">", b"&", b"<RT>", b"\xE3\x81"];
     all(slot, &[&elements[..], &nowhere].concat(), scope.choose(5, 3), &mut Vec::new())
 }
 
