@@ -23,11 +23,12 @@ const COLUMNS: [(&str, &str); 7] = [
 ];
 
 /// Rows of which the first should not take much more than the second: more slots, an import and its edit; or twice as
-/// much, of twice the records or bytes.
-const GROWTHS: [(&str, &str); 4] = [
+/// much, of twice the records or bytes; and an import beside the least that can be asked of its text.
+const GROWTHS: [(&str, &str); 5] = [
     (ONE_OF_256_ON_64_SLOTS, ONE_OF_256),
     (ONE_OF_256, ONE_OF_128),
     (IMPORT, EDIT_OF_IMPORT),
+    (IMPORT, FROM_UTF8),
     (IMPORT_OF_1_MB, IMPORT_OF_500_KB),
 ];
 
@@ -83,9 +84,14 @@ impl Report {
         ]
     }
 
-    /// How an edit of this program grows with slots and with records, and an import over its edit and with bytes.
-    fn growths(&self, column: &str) -> [Option<f64>; 4] {
-        GROWTHS.map(|(more, less)| ratio(self.median(more, column), self.median(less, column)))
+    /// How an edit of this program grows with slots and with records, and an import over its edit, over `from_utf8`
+    /// and with bytes.
+    fn growths(&self, column: &str) -> [Option<f64>; 5] {
+        GROWTHS.map(|(more, less)| {
+            let less =
+                if YARDSTICKS.contains(&less) { self.median(less, PLAIN) } else { self.median(less, column) };
+            ratio(self.median(more, column), less)
+        })
     }
 
     /// The rows, then how an edit and an import grow.
@@ -100,14 +106,15 @@ impl Report {
         }
         table.push('\n');
         for column in PROGRAMS {
-            let [slots, records, import, bytes] = self.growths(column).map(number);
+            let [slots, records, import, utf8, bytes] = self.growths(column).map(number);
             let _ = writeln!(
                 table,
                 "{column}: an edit on 64 slots takes {slots} times one on 1, of 256 records {records} times one of 128"
             );
             let _ = writeln!(
                 table,
-                "{column}: an import of 256 records takes {import} times its edit, of 1 MB {bytes} times one of 500 KB"
+                "{column}: an import of 256 records takes {import} times its edit, {utf8} times from_utf8 of its text, \
+                 of 1 MB {bytes} times one of 500 KB"
             );
         }
         table
