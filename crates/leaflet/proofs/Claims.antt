@@ -1,7 +1,7 @@
 -- What is proved of leaflets (document 02, request 05), in reading order: of texts and answer 17's place, which speak
--- of no reader; of the records that an import hands to edit; of the reader; and of the program. The definitions that the
--- statements name are those of specs/Utf8, Items, Contents, Faults and Imported; `firstChar` of proofs/Nexts, the rows
--- of Unicode's table; and, from the reader on, `read`, `faultIn` and `wordsIn` of specs/Reader. Assumes nothing.
+-- of no reader; of the records that an import hands to edit; of the reader; and of the program. The definitions that
+-- the statements name are those of specs/Utf8, Items, Contents, Faults and Imported; `firstChar` of proofs/Nexts, the
+-- rows of Unicode's table; and, from the reader on, `read`, `faultIn` and `wordsIn` of specs/Reader. Assumes nothing.
 use mathlib.Core.Path.{_≡_, sym, ap, _∙_}
 use Prim.Native.Nat.{ℕ}
 use mathlib.Core.Bool.{true}

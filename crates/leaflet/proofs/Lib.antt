@@ -37,7 +37,9 @@ pub mod Aheads
 pub mod Counts
 pub mod Rubied
 pub mod Puts
+pub mod PutWords
 pub mod Held
+pub mod HeldTurns
 pub mod ReadLoop
 pub mod ReadEnds
 -- What comes of it: texts worked by hand, and the claims.

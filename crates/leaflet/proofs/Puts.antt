@@ -3,19 +3,19 @@ use mathlib.Core.Path.{_≡_, refl, sym, _∙_}
 use Prim.Native.Nat.{ℕ, _+_, _-_, _≤_, _<_}
 use native.Mathlib.Omega.{arith}
 use mathlib.Core.Bool.{Bool, true, false, cond}
-use mathlib.Core.List.{List, [], _∷_, _++_}
+use mathlib.Core.List.{List, [], _∷_}
 use mathlib.Core.Logic.{inl, inr}
 use mathlib.Core.Option.{Option, none, some}
 use lib.Seq.{sets}
 use borrow.Author.Tests.{ne-eqb}
 use Rattle.lists.specs.Lists.{classOf}
-use Rattle.rules.specs.Records.{Rec, recordWords}
+use Rattle.rules.specs.Records.{recordWords}
 use Rattle.leaflet.specs.Items.{char}
 use Rattle.leaflet.specs.Contents.{plain}
-use Rattle.leaflet.specs.Imported.{advanceOf}
+use Rattle.leaflet.specs.Imported.{asWord, advanceOf}
 use Rattle.leaflet.specs.Spots.{Spot, outside, opened, in-base, bare-opened, in-bare, in-first, rt-due}
-use Rattle.leaflet.specs.Spots.{fenced-opened, in-fenced, rp-due, in-last, closing, wantsPlain, letters}
-use Rattle.leaflet.specs.Spots.{allowed, step}
+use Rattle.leaflet.specs.Spots.{fenced-opened, in-fenced, rp-due, in-last, closing, wantsPlain, isOutside}
+use Rattle.leaflet.specs.Spots.{letters, allowed, step}
 use Rattle.leaflet.specs.Written.{toward, inGroup, kept}
 use Rattle.leaflet.specs.Values.{spotOf, stepOf, passedAs, wordsOf, Putting, refused, full, put}
 use Rattle.leaflet.specs.declared.spots.Step.{Step}
@@ -52,16 +52,15 @@ letters-on q c p e = from (allowed q c) e
     from true f = there (letters q) f
     from false f = absurd (some-none f)
 
--- the words of a character's record stand before those of other records
-pub kept-words : (s : ℕ) (q : Spot) (k n c : ℕ) (rs : List Rec) →
-    recordWords (kept s q k n c rs) ≡ wordsOf s q k n c ++ recordWords rs
-unfolding recordWords kept wordsOf
-kept-words s q k n c rs = elim (tested (wantsPlain q)) [ inl e ↦ rw e | inr e ↦ rw e ]
+-- no ruby count is 0, in a group and outside
+no-ruby : (q : Spot) → inGroup q 0 ≡ 0
+unfolding asWord
+no-ruby q = elim (tested (isOutside q)) [ inl e ↦ rw e | inr e ↦ rw e ]
 
-module _ {d e : List ℕ} {i : ℕ} (s : ℕ) (q : Spot) (k n c : ℕ) where
+module _ {d e : List ℕ} {i : ℕ} (s : ℕ) (q : Spot) (k c : ℕ) where
   -- inside rt and rp
   pub put-none : (t : Step) → stepOf t ≡ step q (char c) → wantsPlain q ≡ false → e ≡ d → i ≤ 1542 →
-      Putting d e i s q k n c (passedAs t i)
+      Putting d e i s q k c (passedAs t i)
   unfolding wordsOf kept recordWords
   put-none Refused f w z h = refused (sym f)
   put-none (To p) f w z h =
@@ -70,20 +69,20 @@ module _ {d e : List ℕ} {i : ℕ} (s : ℕ) (q : Spot) (k n c : ℕ) where
 
   -- outside them
   module _ (w : wantsPlain q ≡ true) (class : ℕ) (known : class ≡ cond (plain c) (classOf c) 0) where
-    pub put-refused : class ≡ 0 → Putting d e i s q k n c PutRefused
+    pub put-refused : class ≡ 0 → Putting d e i s q k c PutRefused
     unfolding step
     put-refused z =
         let f : plain c ≡ false = sym (plain-known c) ∙ rw (← known, z) in
         refused (rw (w, f))
 
-    pub put-full : e ≡ d → i ≤ 1542 → 1542 - i < 6 → Putting d e i s q k n c Full
+    pub put-full : e ≡ d → i ≤ 1542 → 1542 - i < 6 → Putting d e i s q k c Full
     put-full z h l = full w z (omega arith)
 
     pub put-put : (class ≡ 0 → ⊥) → i + 6 ≤ 1542 →
-        e ≡ sets d i (c ∷ class ∷ s ∷ advanceOf class s ∷ inGroup q k ∷ inGroup q n ∷ []) →
-        Putting d e i s q k n c (NextAt (i + 6))
+        e ≡ sets d i (c ∷ class ∷ s ∷ advanceOf class s ∷ inGroup q k ∷ 0 ∷ []) →
+        Putting d e i s q k c (NextAt (i + 6))
     unfolding step wordsOf kept recordWords
     put-put z h f =
         let p : plain c ≡ true = sym (plain-known c) ∙ rw (← known, ne-eqb class 0 z) in
         let same : class ≡ classOf c = known ∙ rw p in
-        put {j = i + 6} (rw (w, p) (wanted-on q w)) (rw w) (rw (w, ← same) f) (rw w h)
+        put {j = i + 6} (rw (w, p) (wanted-on q w)) (rw w) (rw (w, ← same, no-ruby q) f) (rw w h)

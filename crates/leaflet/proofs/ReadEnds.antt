@@ -58,12 +58,12 @@ module _ {s : List ℕ} {size : ℕ} {out : List ℕ} {at : ℕ} {q : Spot} {k n
   loop-nothing f h z = at-fault (sym (walked-fault (l .walked) (ahead-none h f z) refl))
 
   letter-refused : {r : Found} {e : List ℕ} (c w : ℕ) → FoundAt s at (next (drop at s)) r → at < length s →
-      r ≡ Letter c w → Putting out e i size q k 0 c PutRefused → ReadAs s size e (FaultAt at)
+      r ≡ Letter c w → Putting out e i size q k c PutRefused → ReadAs s size e (FaultAt at)
   letter-refused c w f h z (refused-here g) =
       at-fault (sym (walked-fault (l .walked) (ahead-char h c w Refused f z (sym g)) refl))
 
   pub loop-refused : {r : Found} {e : List ℕ} {o : Put} (c w : ℕ) → FoundAt s at (next (drop at s)) r →
-      at < length s → r ≡ Letter c w → Putting out e i size q k 0 c o → o ≡ PutRefused → ReadAs s size e (FaultAt at)
+      at < length s → r ≡ Letter c w → Putting out e i size q k c o → o ≡ PutRefused → ReadAs s size e (FaultAt at)
   loop-refused c w f h z a y = letter-refused c w f h z (rw y at a)
 
   pub loop-astray : {r : Found} {e : List ℕ} (v : TagValue) (w : ℕ) {t : Step} → FoundAt s at (next (drop at s)) r →
@@ -91,7 +91,7 @@ module _ {s : List ℕ} {size : ℕ} {out : List ℕ} {at : ℕ} {q : Spot} {k n
 
   -- where there is no more room, the words are those of 257 records: a group that is open gets its ruby count from what
   -- is ahead
-  letter-full : {d e : List ℕ} (c : ℕ) (o : Outcome) → Putting out d i size q k 0 c Full →
+  letter-full : {d e : List ℕ} (c : ℕ) (o : Outcome) → Putting out d i size q k c Full →
       e ≡ rubied ((i - g) / 6) g (asWord (rtAhead (itemsFrom (drop at s)))) d →
       outcomeOf o ≡ faultFrom q at (drop at s) → ReadAs s size e (filledAs o i)
   letter-full c (Fault p) (full w z x) r f = at-fault (sym (f ∙ l .walked .same))
@@ -107,16 +107,16 @@ module _ {s : List ℕ} {size : ℕ} {out : List ℕ} {at : ℕ} {q : Spot} {k n
       (sym (ap (take 1542) (sym whole)
       ∙ take-at (take i e) (a .later) 1542 (length-take-le i e (omega (arith, long, l .room)) ∙ all)))
 
-  pub loop-full : {d e : List ℕ} (c : ℕ) {o : Put} (t : Outcome) → Putting out d i size q k 0 c o → o ≡ Full →
+  pub loop-full : {d e : List ℕ} (c : ℕ) {o : Put} (t : Outcome) → Putting out d i size q k c o → o ≡ Full →
       e ≡ rubied ((i - g) / 6) g (asWord (rtAhead (itemsFrom (drop at s)))) d →
       outcomeOf t ≡ faultFrom q at (drop at s) → ReadAs s size e (filledAs t i)
   loop-full c t a y r f = letter-full c t (rw y at a) r f
 
   -- the words that get it are there
-  full-room : {d : List ℕ} (c : ℕ) → Putting out d i size q k 0 c Full →
+  full-room : {d : List ℕ} (c : ℕ) → Putting out d i size q k c Full →
       (g ≤ i) × (i ≤ length d) × ((i - g) % 6 ≡ 0)
   full-room c (full w z x) = rw z (loop-base l)
 
-  pub loop-full-room : {d : List ℕ} (c : ℕ) {o : Put} → Putting out d i size q k 0 c o → o ≡ Full →
+  pub loop-full-room : {d : List ℕ} (c : ℕ) {o : Put} → Putting out d i size q k c o → o ≡ Full →
       (g ≤ i) × (i ≤ length d) × ((i - g) % 6 ≡ 0)
   loop-full-room c a y = full-room c (rw y at a)

@@ -31,7 +31,8 @@ use Rattle.leaflet.proofs.Walked.{Walked, walked-start, walked-more}
 use Rattle.leaflet.proofs.Aheads.{at-letter, at-markup, on-letter, on-markup}
 use Rattle.leaflet.proofs.Moves.{step-move}
 use Rattle.leaflet.proofs.Rubied.{length-rubied}
-use Rattle.leaflet.proofs.Held.{Held, held-char, held-tag}
+use Rattle.leaflet.proofs.Held.{Held}
+use Rattle.leaflet.proofs.HeldTurns.{held-char, held-tag}
 
 -- the loop at an offset and a spot: k groups are begun, the last has had n ruby characters, i words are put, and those
 -- before g have their ruby counts
@@ -76,9 +77,9 @@ length-settled Tag.rp ws vs e = refl
 length-settled Tag.rp-end ws vs e = refl
 
 -- a record is six words, or none
-words-sixes : (size : ℕ) (q : Spot) (k n c : ℕ) → length (wordsOf size q k n c) % 6 ≡ 0
+words-sixes : (size : ℕ) (q : Spot) (k c : ℕ) → length (wordsOf size q k c) % 6 ≡ 0
 unfolding wordsOf kept recordWords
-words-sixes size q k n c = elim (tested (wantsPlain q)) [ inl e ↦ rw e | inr e ↦ rw e ]
+words-sixes size q k c = elim (tested (wantsPlain q)) [ inl e ↦ rw e | inr e ↦ rw e ]
 
 module _ {s : List ℕ} {size : ℕ} where
   pub loop-start : {out : List ℕ} → length out ≡ 1542 → Loop s size out 0 outside 0 0 0 0
@@ -111,7 +112,7 @@ module _ {s : List ℕ} {size : ℕ} where
     letter-put : {r : Found} (c w : ℕ) {e : List ℕ} (j : ℕ) (p : SpotValue) (m h : ℕ) →
         FoundAt s at (next (drop at s)) r → at < length s → r ≡ Letter c w → spotOf p ≡ toward (letters q) →
         m ≡ cond (inRt q) (suc n) n → h ≡ cond (isOutside q) j g →
-        Putting out e i size q k 0 c (NextAt j) → Loop s size e (at + w) (spotOf p) k m j h
+        Putting out e i size q k c (NextAt j) → Loop s size e (at + w) (spotOf p) k m j h
     letter-put c w j p m h f z x y e₃ e₄ (put v e₁ e₂ r) =
         let on = on-letter f c w z x in
         let there : some (spotOf p) ≡ step q (char c) = ap some y ∙ sym v in
@@ -123,16 +124,16 @@ module _ {s : List ℕ} {size : ℕ} where
           walked = walked-more p w (l .walked) a refl;
           begun = omega (arith, l .begun);
           counted = omega (arith, l .counted, few, e₃, on);
-          long = rw e₂ (length-sets out i (wordsOf size q k 0 c)) ∙ l .long;
+          long = rw e₂ (length-sets out i (wordsOf size q k c)) ∙ l .long;
           room = omega (arith, e₁, r);
-          sixes = omega (arith, e₁, l .sixes, words-sixes size q k 0 c);
+          sixes = omega (arith, e₁, l .sixes, words-sixes size q k c);
           held = rw (e₃, e₄) turn;
         }
 
     pub loop-letter : {r : Found} (c w : ℕ) {e : List ℕ} {o : Put} (j : ℕ) (p : SpotValue) (m h : ℕ) →
         FoundAt s at (next (drop at s)) r → at < length s → r ≡ Letter c w → spotOf p ≡ toward (letters q) →
         m ≡ cond (inRt q) (suc n) n → h ≡ cond (isOutside q) j g →
-        Putting out e i size q k 0 c o → o ≡ NextAt j → Loop s size e (at + w) (spotOf p) k m j h
+        Putting out e i size q k c o → o ≡ NextAt j → Loop s size e (at + w) (spotOf p) k m j h
     loop-letter c w j p m h f z x y e₃ e₄ a v = letter-put c w j p m h f z x y e₃ e₄ (rw v at a)
 
     -- past a tag

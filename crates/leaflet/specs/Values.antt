@@ -111,17 +111,17 @@ abbrev pub passedAs : Step → ℕ → Put
 passedAs (To q) i = NextAt i
 passedAs Refused i = PutRefused
 
--- the words of a character's record, if it has one
-unfoldable pub wordsOf : ℕ → Spot → ℕ → ℕ → ℕ → List ℕ
-wordsOf s q k n c = recordWords (kept s q k n c [])
+-- the words of a character's record, if it has one, without a ruby count
+unfoldable pub wordsOf : ℕ → Spot → ℕ → ℕ → List ℕ
+wordsOf s q k c = recordWords (kept s q k 0 c [])
 
 -- words d with the record of a character c put at i, if it has one, are e; or the character may not stand at spot q;
--- or there is no room
-pub data Putting (d e : List ℕ) (i s : ℕ) (q : Spot) (k n c : ℕ) : Put → Type 0 where
-  refused : step q (char c) ≡ none → Putting d e i s q k n c PutRefused
-  full : wantsPlain q ≡ true → e ≡ d → 1542 < i + 6 → Putting d e i s q k n c Full
-  put : {j : ℕ} → step q (char c) ≡ some (toward (letters q)) → j ≡ i + length (wordsOf s q k n c) →
-      e ≡ sets d i (wordsOf s q k n c) → i + length (wordsOf s q k n c) ≤ 1542 → Putting d e i s q k n c (NextAt j)
+-- or it would have a record, and there is no room
+pub data Putting (d e : List ℕ) (i s : ℕ) (q : Spot) (k c : ℕ) : Put → Type 0 where
+  refused : step q (char c) ≡ none → Putting d e i s q k c PutRefused
+  full : wantsPlain q ≡ true → e ≡ d → 1542 < i + 6 → Putting d e i s q k c Full
+  put : {j : ℕ} → step q (char c) ≡ some (toward (letters q)) → j ≡ i + length (wordsOf s q k c) →
+      e ≡ sets d i (wordsOf s q k c) → i + length (wordsOf s q k c) ≤ 1542 → Putting d e i s q k c (NextAt j)
 
 -- what a text is read as, with size s, where e are the words put: answer 17's place, or that it is accepted, with the
 -- words of its records as far as there was room

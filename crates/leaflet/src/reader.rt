@@ -117,7 +117,7 @@ pub fn read_leaflet(s: &[u8], size: u32, words: &mut [u32; 1542]) -> Reading
     while at < s.len() {
         match item_at(s, at) {
             Found::Nothing => return Reading::Fault(at),
-            Found::Letter(c, width) => match put_letter(out, i, q, c, size, k, 0) {
+            Found::Letter(c, width) => match put_letter(out, i, q, c, size, k) {
                 Put::Refused => return Reading::Fault(at),
                 Put::Full => {
                     put_ruby(out, g, i, as_word(rt_ahead(s, at)));

@@ -21,7 +21,7 @@ pub(crate) fn as_word(n: usize) -> u32
     if n < 4294967296 { n as u32 } else { 4294967295 }
 }
 
-// A group number or ruby count at a spot: 0 outside ruby elements.
+// A group number at a spot: 0 outside ruby elements.
 fn in_group(q: Spot, n: usize) -> u32
     ensures { λ r. ⌜ r ≡ inGroup (spotOf q) n ⌝ }
 {
@@ -40,27 +40,19 @@ fn advance_of(class: u32, size: u32) -> u32
     }
 }
 
-// Puts the six words of a record. A function of its own, so that its stores are told by one equation.
-fn put_record(
-    words: &mut [u32],
-    i: usize,
-    c: u32,
-    class: u32,
-    size: u32,
-    advance: u32,
-    g: u32,
-    n: u32,
-)
+// Puts the six words of a record, without a ruby count. A function of its own, so that its stores are told by one
+// equation.
+fn put_record(words: &mut [u32], i: usize, c: u32, class: u32, size: u32, advance: u32, g: u32)
     requires { ⌜ i + 6 ≤ length (now words) ⌝ }
     ensures { λ _. ⌜ now (words .exit)
-        ≡ sets (now (words .entry)) i (c ∷ class ∷ size ∷ advance ∷ g ∷ n ∷ []) ⌝ }
+        ≡ sets (now (words .entry)) i (c ∷ class ∷ size ∷ advance ∷ g ∷ 0 ∷ []) ⌝ }
 {
     words[i] = c;
     words[i + 1] = class;
     words[i + 2] = size;
     words[i + 3] = advance;
     words[i + 4] = g;
-    words[i + 5] = n;
+    words[i + 5] = 0;
 }
 
 // What came of a character.
@@ -83,18 +75,10 @@ fn passed(step: Step, i: usize) -> Put
     }
 }
 
-// Puts the record of a character at a spot, if it has one, after `k` groups, the last of `n` ruby characters.
-pub(crate) fn put_letter(
-    words: &mut [u32],
-    i: usize,
-    q: Spot,
-    c: u32,
-    size: u32,
-    k: usize,
-    n: usize,
-) -> Put
+// Puts the record of a character at a spot, if it has one, after `k` groups. Its ruby count comes later.
+pub(crate) fn put_letter(words: &mut [u32], i: usize, q: Spot, c: u32, size: u32, k: usize) -> Put
     requires { ⌜ (length (now words) ≡ 1542) × (i ≤ 1542) ⌝ }
-    ensures { λ r. ⌜ Putting (now (words .entry)) (now (words .exit)) i size (spotOf q) k n c r ⌝ }
+    ensures { λ r. ⌜ Putting (now (words .entry)) (now (words .exit)) i size (spotOf q) k c r ⌝ }
 {
     if !wants_plain(q) {
         return passed(after_char(q, c), i);
@@ -107,15 +91,6 @@ pub(crate) fn put_letter(
         return Put::Full;
     }
     let advance = advance_of(class, size);
-    put_record(
-        words,
-        i,
-        c,
-        class,
-        size,
-        advance,
-        in_group(q, k),
-        in_group(q, n),
-    );
+    put_record(words, i, c, class, size, advance, in_group(q, k));
     Put::Next(i + 6)
 }

@@ -18,21 +18,13 @@ use Rattle.leaflet.specs.Contents.{Piece, Spells, reading}
 use Rattle.leaflet.specs.Faults.{Fault}
 use Rattle.leaflet.specs.Imported.{importedRecords}
 use Rattle.leaflet.specs.Reader.{faultIn, wordsIn}
-use Rattle.leaflet.proofs.Claims.{fault-none, fault-some}
-use Rattle.leaflet.proofs.Ends.{items-spelt}
-use Rattle.leaflet.proofs.Gathers.{parts-spelt}
+use Rattle.leaflet.proofs.Claims.{words-spelt, fault-none, fault-some}
 use Rattle.sheet.specs.Import.{replaceSlot, unlessFault, import}
 use Rattle.sheet.specs.Meanings.{Spliced}
 use Rattle.sheet.proofs.OnSlot.{on-same}
 use Rattle.sheet.proofs.Faulted.{unless}
 use Rattle.sheet.proofs.NotGiven.{edit-not-17}
 use Rattle.sheet.proofs.Changes.{accepted-edit, refused-none}
-
--- the words of a text that spells a content
-words-spelt : (size : ℕ) {text : List ℕ} {ps : List Piece} → Spells text ps →
-    wordsIn size text ≡ recordWords (importedRecords size (reading ps))
-unfolding wordsIn
-words-spelt size {text} {ps} s = rw (items-spelt s, parts-spelt ps)
 
 module _ (ws : List ℕ) (caller k size : ℕ) (text : List ℕ) where
   abbrev out : Outcome EditAnswer
@@ -72,7 +64,7 @@ module _ (ws : List ℕ) (caller k size : ℕ) (text : List ℕ) where
         by-edit
         ∙ ap (λ f. unlessFault (λ a. a) f ws (its (wordsIn size text)))
         (fault-none text .1 (record { content = ps; spells = s }))
-        ∙ ap its (words-spelt size s)
+        ∙ ap its (words-spelt size text ps s)
 
     -- all records go out, and exactly the content's come in
     spliced-all : {t : List ℕ} {a : EditAnswer} →

@@ -96,7 +96,8 @@ returns-3 c =
     rw (c .filled .ensures)
     (loop-full (round (of-letter (letter p)) .loop .inv) _ (c .before .fault-from .result) (p .put-letter .ensures)
     (e .enum-told3 .given .1)
-    (rw (← a .before .rt-ahead .ensures, ← a .as-word .ensures) (r .put-ruby .ensures)) (c .before .fault-from .ensures))
+    (rw (← a .before .rt-ahead .ensures, ← a .as-word .ensures) (r .put-ruby .ensures))
+    (c .before .fault-from .ensures))
 
 ruby-counted-requires : tie.Need-ruby-counted-requires Inv-loop μ-loop
 ruby-counted-requires c κs =
