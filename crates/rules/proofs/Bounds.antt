@@ -1,34 +1,54 @@
 -- How large a size and a group's numbers get, so that the program's sums and products fit 32 bits.
 -- Assumes nothing.
 use mathlib.Core.Path.{_≡_}
-use Prim.Native.Nat.{ℕ, _+_, _*_, _/_, _%_, _≤_, _<_}
+use Prim.Native.Nat.{ℕ, _+_, _*_, _-_, _/_, _%_, _≤_, _<_}
 use native.Mathlib.Omega.{arith}
-use native.Mathlib.Nat.{mul-le-mul, mul-le-mul-left, mul-comm, div-le-of-le-mul}
+use native.Mathlib.Nat.{mul-le-mul, mul-le-mul-left, mul-comm, mul-zero, zero-div, mul-div-left, div-le-of-le-mul}
 use mathlib.Core.Bool.{true, _&&_, and-eq-true-iff}
-use borrow.Author.Tests.{leb-true, ltb-true, eqb-true}
+use mathlib.Core.Logic.{inl, inr}
+use borrow.Author.Tests.{le-leb, leb-true, ltb-true, eqb-true}
 use lib.Dec.{leb, ltb, eqb}
 use Rattle.rules.specs.Basics.{within}
 use Rattle.rules.specs.Records.{sizeOk}
 use Rattle.rules.specs.Groups.{rubyTotal, shift, rubyOk}
 use Rattle.rules.specs.Values.{ShiftBounds}
+use Rattle.rules.proofs.Facts.{tested}
 
 pub rubyTotal-small : (n s : ℕ) → n ≤ 64 → s ≤ 4000 → rubyTotal n s ≤ 128000
 rubyTotal-small n s h k =
     let half : s / 2 ≤ 2000 = omega arith in
     mul-le-mul h half
 
--- the product of which a shift is the quotient
-pub shift-product : {d n k : ℕ} → ShiftBounds d n k → d * (2 * k + 1) ≤ 128000 * 127
-shift-product {k = k} b =
-    let odd : 2 * k + 1 ≤ 127 = omega arith in
-    mul-le-mul (b .difference) odd
+-- Of two or more items in the shorter row the first is not shifted, and the last by all of the difference
+pub shift-first : (d n : ℕ) → 2 ≤ n → shift d n 0 ≡ 0
+unfolding shift
+shift-first d n h = rw (le-leb 2 n h, mul-zero, zero-div)
+
+pub shift-last : (d n : ℕ) → 2 ≤ n → shift d n (n - 1) ≡ d
+unfolding shift
+shift-last d n h =
+    let pos : 0 < n - 1 = omega arith in
+    rw (le-leb 2 n h) (mul-div-left d pos)
+
+-- a single one stands in the middle
+pub shift-only : (d : ℕ) → (2 * shift d 1 0 ≤ d) × (d ≤ 2 * shift d 1 0 + 1)
+unfolding shift
+shift-only d = (omega arith, omega arith)
 
 -- no item is shifted by more than the difference
 pub shift-small : (d n k : ℕ) → k < n → shift d n k ≤ d
 unfolding shift
 shift-small d n k h =
-    let odd : 2 * k + 1 ≤ 2 * n = omega arith in
-    div-le-of-le-mul (2 * n) (rw (mul-comm (2 * n) d) (mul-le-mul-left d odd))
+    elim (tested (leb 2 n)) [
+      | inl e ↦ rw e (div-le-of-le-mul (n - 1) (rw (mul-comm (n - 1) d) (mul-le-mul-left d (omega arith))))
+      | inr e ↦ rw e (omega arith)
+    ]
+
+-- the product of which a shift is the quotient
+pub shift-product : {d n k : ℕ} → ShiftBounds d n k → d * k ≤ 128000 * 63
+shift-product {k = k} b =
+    let last : k ≤ 63 = omega arith in
+    mul-le-mul (b .difference) last
 
 -- what holds where ruby place does not refuse
 pub record RubyBounds (base n s k : ℕ) : Type 0 where

@@ -12,7 +12,8 @@ use Rattle.rules.specs.Basics.{Run, whole}
 use Rattle.rules.specs.Records.{Rec, classes, classOk}
 use Rattle.rules.specs.Listed.{notListed}
 use Rattle.rules.specs.Space.{ruleOf, spaceOf}
-use Rattle.rules.specs.Groups.{TextUnit, sameGroup, units, advance, groupAdvance, baseOffsets, rubyOffset}
+use Rattle.rules.specs.Groups.{TextUnit, sameGroup, units, count, baseTotal, advance, groupAdvance, baseOffsets}
+use Rattle.rules.specs.Groups.{rubyOffset}
 use Rattle.rules.specs.Sides.{Side, arabicDigit, forbidden}
 use Rattle.rules.specs.Gaps.{flexibility, Gap, gapBy}
 use Rattle.rules.specs.Breaks.{bound, width, runs, noBreaking, breaking}
@@ -24,6 +25,7 @@ use Rattle.rules.specs.Meanings.{FirstWide, GapAt, WithinLimits, FirstSt
 use Rattle.rules.specs.Meanings.{NeverOpens, startsWith}
 use Rattle.rules.specs.Percent.{digitAndPostfix}
 use Rattle.rules.specs.Stable.{Holds, FirstThat, Resumes, usedBy, StableEdit}
+use Rattle.rules.specs.SpaceBetween.{offsetOf, advanceOf, SpaceBetween, Centred}
 use Rattle.rules.specs.Spacing.{named, gapSet, spacingTable, cellIn}
 use Rattle.rules.specs.Packed.{packed, unpacked, Packs, AtMost}
 use Rattle.rules.proofs.Facts.{some-none}
@@ -32,6 +34,7 @@ use Rattle.rules.proofs.Listed.{classIn, classes-listed, all-listed, fi
 use Rattle.rules.proofs.Worked.{right}
 use Rattle.rules.proofs.Cases.{rows, cases-hold}
 use Rattle.rules.proofs.PercentCases.{percents, percents-hold}
+use Rattle.rules.proofs.RowCases.{group-rows, group-rows-hold}
 use Rattle.rules.proofs.PairCases.{pairs, ruled, wanted, pairs-hold}
 use Rattle.rules.proofs.Cuts.{cut-maximal, maximal-only, boundary-exact, units-one}
 use Rattle.rules.proofs.NoBreaking.{breaking-exists, due-exactly, place-of-10}
@@ -51,6 +54,7 @@ use Rattle.rules.proofs.Ends.{ends-within, wide-ends, flush-ends, short
 use Rattle.rules.proofs.GapLimits.{within-limits}
 use Rattle.rules.proofs.GapLimits.{first-stage-full}
 use Rattle.rules.proofs.GroupRows.{base-within, ruby-within}
+use Rattle.rules.proofs.SpaceBetween.{base-spaced, ruby-spaced, base-centred, ruby-centred}
 use Rattle.rules.proofs.RubyPlaces.{accepted-placed}
 use Rattle.rules.proofs.LineOpenings.{comma-barred, no-line-opens}
 use Rattle.rules.proofs.ListedCases.{listings, listings-hold}
@@ -113,6 +117,22 @@ base-row-within u rs r qs e = base-within u rs r qs e
 
 pub ruby-row-within : (base n s k : ℕ) → k < n → rubyOffset base n s k + s / 2 ≤ groupAdvance base n s
 ruby-row-within base n s k h = ruby-within base n s k h
+
+-- request 06: with two or more items, either row starts and ends with the group and only its inner gaps open, evenly:
+-- the base row, and the ruby row
+pub base-row-between : (u : TextUnit) → 2 ≤ count u → SpaceBetween (count u) (offsetOf u) (advanceOf u) (advance u)
+base-row-between u h = base-spaced u h
+
+pub ruby-row-between : (base n s : ℕ) → 2 ≤ n →
+    SpaceBetween n (rubyOffset base n s) (λ k. s / 2) (groupAdvance base n s)
+ruby-row-between base n s h = ruby-spaced base n s h
+
+-- and a single item stands in the middle of the group
+pub base-row-centred : (u : TextUnit) → count u ≡ 1 → Centred (offsetOf u 0) (baseTotal u) (advance u)
+base-row-centred u e = base-centred u e
+
+pub ruby-row-centred : (base s : ℕ) → Centred (rubyOffset base 1 s 0) (s / 2) (groupAdvance base 1 s)
+ruby-row-centred base s = ruby-centred base s
 
 -- the code of ruby place meets its contract
 pub ruby-place-meets : {M : Type 1} → ruby-place-contract.statement M
@@ -260,6 +280,10 @@ composed-by-hand = cases-hold
 -- request 01: a digit and the % or ℃ after it
 pub percent-by-hand : right percents ≡ true
 percent-by-hand = percents-hold
+
+-- request 06: the two rows of a group
+pub rows-by-hand : right group-rows ≡ true
+rows-by-hand = group-rows-hold
 
 -- the break and the gap between two units, rule by rule
 pub pairs-by-hand : map ruled pairs ≡ map wanted pairs

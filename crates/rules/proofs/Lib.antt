@@ -7,6 +7,7 @@ pub mod Listed
 pub mod Worked
 pub mod Cases
 pub mod PercentCases
+pub mod RowCases
 pub mod PairCases
 pub mod Cuts
 pub mod Widths
@@ -31,6 +32,7 @@ pub mod Shares
 pub mod Ends
 pub mod GapLimits
 pub mod GroupRows
+pub mod SpaceBetween
 pub mod Limits
 pub mod GroupLimits
 pub mod GroupedRecords

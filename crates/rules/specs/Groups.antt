@@ -1,4 +1,5 @@
--- Document 01, "Records and groups", second and third paragraph: groups, units, and the rows of a group. Answer 9.
+-- Document 01, "Records and groups", second and third paragraph, as request 06 amends it: groups, units, and the rows of
+-- a group. Answer 9.
 --
 --   group        neighbouring records with the same non-zero group number; the same number further on is another group
 --   unit         a group or a single record
@@ -10,7 +11,7 @@ use Prim.Native.Nat.{ℕ, suc, _+_, _*_, _-_, _/_, max}
 use mathlib.Core.Bool.{Bool, true, false, cond, not, _&&_}
 use mathlib.Core.List.{List, [], _∷_}
 use mathlib.Core.Option.{Option, none, some}
-use lib.Dec.{ltb, eqb}
+use lib.Dec.{leb, ltb, eqb}
 use lib.ListN.{length}
 use Rattle.rules.specs.Basics.{within, Run, whole, cut}
 use Rattle.rules.specs.Records.{Rec, sizeOk}
@@ -78,11 +79,12 @@ groupAdvance base n s = max base (rubyTotal n s)
 unfoldable pub advance : TextUnit → ℕ
 advance u = groupAdvance (baseTotal u) (u .first .ruby) (u .first .size)
 
--- "With D the difference and n the number of items in the shorter row, item k (from 0) of that row stands at its
--- solid offset plus floor(D(2k+1)/(2n)). The longer row is solid from 0. Equal rows are both solid." The difference d
--- is taken as longer less shorter, so it is 0 for the longer row
+-- Request 06, in place of document 01's floor(D(2k+1)/(2n)): "with n of 2 or more, item k of the shorter row stands at
+-- its solid offset plus floor(D·k/(n−1)); with n=1 at floor(D/2) as before." n is the number of items in the shorter
+-- row. Document 01: "The longer row is solid from 0. Equal rows are both solid." The difference d is taken as longer
+-- less shorter, so it is 0 for the longer row
 unfoldable pub shift : ℕ → ℕ → ℕ → ℕ
-shift d n k = d * (2 * k + 1) / (2 * n)
+shift d n k = cond (leb 2 n) (d * k / (n - 1)) (d / 2)
 
 -- the offset of an item of the base row: item k of n, at a solid offset
 unfoldable pub baseOffset : ℕ → ℕ → ℕ → ℕ → ℕ → ℕ → ℕ

@@ -1,6 +1,6 @@
 -- The rules of document 01 as document 02's requests amend them, a file to a section. A reader's order is that of the
--- lines below; what the definitions mean, said without their algorithms, is `Meanings`, and for requests 01 and 03
--- `Percent` and `Stable`. `Listed` is request 04.
+-- lines below; what the definitions mean, said without their algorithms, is `Meanings`, and for requests 01, 03
+-- and 06 `Percent`, `Stable` and `SpaceBetween`. `Listed` is request 04.
 -- `Spacing` and `Packed`, of request 02, state the tables and words in which the program has the gaps.
 pub mod Basics
 pub mod Records
@@ -20,4 +20,5 @@ pub mod Values
 pub mod Meanings
 pub mod Percent
 pub mod Stable
+pub mod SpaceBetween
 pub mod Computed

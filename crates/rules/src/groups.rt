@@ -47,7 +47,10 @@ fn shift(d: u32, n: u32, k: u32) -> u32
     if d == 0 {
         return 0;
     }
-    d * (2 * k + 1) / (2 * n)
+    if n == 1 {
+        return d / 2;
+    }
+    d * k / (n - 1)
 }
 
 // The offset of record `k` of `n` in the base row of a group.
