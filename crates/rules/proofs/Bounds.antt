@@ -3,7 +3,7 @@
 use mathlib.Core.Path.{_≡_}
 use Prim.Native.Nat.{ℕ, _+_, _*_, _-_, _/_, _%_, _≤_, _<_}
 use native.Mathlib.Omega.{arith}
-use native.Mathlib.Nat.{mul-le-mul, mul-le-mul-left, mul-comm, mul-zero, zero-div, mul-div-left, div-le-of-le-mul}
+use native.Mathlib.Nat.{mul-le-mul, mul-le-mul-left, mul-comm, mul-div-left, div-le-of-le-mul}
 use mathlib.Core.Bool.{true, _&&_, and-eq-true-iff}
 use mathlib.Core.Logic.{inl, inr}
 use borrow.Author.Tests.{le-leb, leb-true, ltb-true, eqb-true}
@@ -13,6 +13,7 @@ use Rattle.rules.specs.Records.{sizeOk}
 use Rattle.rules.specs.Groups.{rubyTotal, shift, rubyOk}
 use Rattle.rules.specs.Values.{ShiftBounds}
 use Rattle.rules.proofs.Facts.{tested}
+use Rattle.rules.proofs.Shares.{none-yet}
 
 pub rubyTotal-small : (n s : ℕ) → n ≤ 64 → s ≤ 4000 → rubyTotal n s ≤ 128000
 rubyTotal-small n s h k =
@@ -22,7 +23,7 @@ rubyTotal-small n s h k =
 -- Of two or more items in the shorter row the first is not shifted, and the last by all of the difference
 pub shift-first : (d n : ℕ) → 2 ≤ n → shift d n 0 ≡ 0
 unfolding shift
-shift-first d n h = rw (le-leb 2 n h, mul-zero, zero-div)
+shift-first d n h = rw (le-leb 2 n h) (none-yet d (n - 1))
 
 pub shift-last : (d n : ℕ) → 2 ≤ n → shift d n (n - 1) ≡ d
 unfolding shift

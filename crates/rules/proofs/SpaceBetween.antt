@@ -25,15 +25,14 @@ floor-low a b c pos =
 
 floor-high : (a b c : ℕ) → 0 < c → (a + b) / c ≤ a / c + b / c + 1
 floor-high a b c pos =
-    let below = div-lt-iff-lt-mul {x = a + b} {y = a / c + b / c + 2} pos .1 (
-    omega (
+    let sum : a + b < (a / c + b / c + 2) * c = omega (
       arith,
       add-mul (a / c + b / c) 2 c,
       add-mul (a / c) (b / c) c,
       lt-div-mul-add {a = a} pos,
       lt-div-mul-add {a = b} pos,
-    )) in
-    omega arith
+    ) in
+    omega (arith, div-lt-iff-lt-mul pos .1 sum)
 
 -- so from one item to the next the shift grows by one amount, or 1 more
 shift-low : (d n k : ℕ) → 2 ≤ n → shift d n k + d / (n - 1) ≤ shift d n (suc k)
