@@ -23,7 +23,7 @@ rubyTotal-small n s h k =
 -- Of two or more items in the shorter row the first is not shifted, and the last by all of the difference
 pub shift-first : (d n : ℕ) → 2 ≤ n → shift d n 0 ≡ 0
 unfolding shift
-shift-first d n h = rw (le-leb 2 n h) (none-yet d (n - 1))
+shift-first d n h = rw (le-leb 2 n h) (none-yet d _)
 
 pub shift-last : (d n : ℕ) → 2 ≤ n → shift d n (n - 1) ≡ d
 unfolding shift
