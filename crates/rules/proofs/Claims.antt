@@ -12,8 +12,8 @@ use Rattle.rules.specs.Basics.{Run, whole}
 use Rattle.rules.specs.Records.{Rec, classes, classOk}
 use Rattle.rules.specs.Listed.{notListed}
 use Rattle.rules.specs.Space.{ruleOf, spaceOf}
-use Rattle.rules.specs.Groups.{TextUnit, sameGroup, units, count, baseTotal, advance, groupAdvance, baseOffsets}
-use Rattle.rules.specs.Groups.{rubyOffset}
+use Rattle.rules.specs.Groups.{TextUnit, sameGroup, units, count, baseTotal, rubyTotal, advance}
+use Rattle.rules.specs.Groups.{groupAdvance, baseOffsets, rubyOffset}
 use Rattle.rules.specs.Sides.{Side, arabicDigit, forbidden}
 use Rattle.rules.specs.Gaps.{flexibility, Gap, gapBy}
 use Rattle.rules.specs.Breaks.{bound, width, runs, noBreaking, breaking}
@@ -25,7 +25,7 @@ use Rattle.rules.specs.Meanings.{FirstWide, GapAt, WithinLimits, FirstSt
 use Rattle.rules.specs.Meanings.{NeverOpens, startsWith}
 use Rattle.rules.specs.Percent.{digitAndPostfix}
 use Rattle.rules.specs.Stable.{Holds, FirstThat, Resumes, usedBy, StableEdit}
-use Rattle.rules.specs.SpaceBetween.{offsetOf, advanceOf, SpaceBetween, Centred}
+use Rattle.rules.specs.SpaceBetween.{offsetOf, advanceOf, SpaceBetween, Centred, Solid}
 use Rattle.rules.specs.Spacing.{named, gapSet, spacingTable, cellIn}
 use Rattle.rules.specs.Packed.{packed, unpacked, Packs, AtMost}
 use Rattle.rules.proofs.Facts.{some-none}
@@ -51,10 +51,9 @@ use Rattle.rules.proofs.Resuming.{resumes-exactly}
 use Rattle.rules.proofs.RedoneLines.{edit-stable}
 use Rattle.rules.proofs.RedoneCases.{edit-rows, edits-right, edit-cases-hold}
 use Rattle.rules.proofs.Ends.{ends-within, wide-ends, flush-ends, short-ends, final-ends}
-use Rattle.rules.proofs.GapLimits.{within-limits}
-use Rattle.rules.proofs.GapLimits.{first-stage-full}
-use Rattle.rules.proofs.GroupRows.{base-within, ruby-within}
-use Rattle.rules.proofs.SpaceBetween.{base-spaced, ruby-spaced, base-centred, ruby-centred}
+use Rattle.rules.proofs.GapLimits.{within-limits, first-stage-full}
+use Rattle.rules.proofs.GroupRows.{base-within, base-between, base-centred, base-solid}
+use Rattle.rules.proofs.GroupRows.{ruby-within, ruby-between, ruby-centred, ruby-solid}
 use Rattle.rules.proofs.RubyPlaces.{accepted-placed}
 use Rattle.rules.proofs.LineOpenings.{comma-barred, no-line-opens}
 use Rattle.rules.proofs.ListedCases.{listings, listings-hold}
@@ -118,21 +117,28 @@ base-row-within u rs r qs e = base-within u rs r qs e
 pub ruby-row-within : (base n s k : ℕ) → k < n → rubyOffset base n s k + s / 2 ≤ groupAdvance base n s
 ruby-row-within base n s k h = ruby-within base n s k h
 
--- request 06: with two or more items, either row starts and ends with the group and only its inner gaps open, evenly:
--- the base row, and the ruby row
+-- request 06: with two or more items, either row starts and ends with the group, and only its inner gaps open, evenly
 pub base-row-between : (u : TextUnit) → 2 ≤ count u → SpaceBetween (count u) (offsetOf u) (advanceOf u) (advance u)
-base-row-between u h = base-spaced u h
+base-row-between u many = base-between u many
 
 pub ruby-row-between : (base n s : ℕ) → 2 ≤ n →
     SpaceBetween n (rubyOffset base n s) (λ k. s / 2) (groupAdvance base n s)
-ruby-row-between base n s h = ruby-spaced base n s h
+ruby-row-between base n s many = ruby-between base n s many
 
--- and a single item stands in the middle of the group
-pub base-row-centred : (u : TextUnit) → count u ≡ 1 → Centred (offsetOf u 0) (baseTotal u) (advance u)
-base-row-centred u e = base-centred u e
+-- a single item stands in the middle of the group
+pub base-row-centred : (u : TextUnit) → count u ≡ 1 → Centred (offsetOf u 0) (advanceOf u 0) (advance u)
+base-row-centred u one = base-centred u one
 
-pub ruby-row-centred : (base s : ℕ) → Centred (rubyOffset base 1 s 0) (s / 2) (groupAdvance base 1 s)
-ruby-row-centred base s = ruby-centred base s
+pub ruby-row-centred : (base n s : ℕ) → n ≡ 1 → Centred (rubyOffset base n s 0) (s / 2) (groupAdvance base n s)
+ruby-row-centred base n s one = ruby-centred base n s one
+
+-- and the longer row is solid; equal rows both are
+pub base-row-solid : (u : TextUnit) → rubyTotal (u .first .ruby) (u .first .size) ≤ baseTotal u →
+    Solid (count u) (offsetOf u) (advanceOf u)
+base-row-solid u longer = base-solid u longer
+
+pub ruby-row-solid : (base n s : ℕ) → base ≤ rubyTotal n s → 0 < n → Solid n (rubyOffset base n s) (λ k. s / 2)
+ruby-row-solid base n s longer any = ruby-solid base n s longer any
 
 -- the code of ruby place meets its contract
 pub ruby-place-meets : {M : Type 1} → ruby-place-contract.statement M

@@ -31,8 +31,8 @@ pub mod Percent
 pub mod Shares
 pub mod Ends
 pub mod GapLimits
+pub mod SetRows
 pub mod GroupRows
-pub mod SpaceBetween
 pub mod Limits
 pub mod GroupLimits
 pub mod GroupedRecords

@@ -1,5 +1,5 @@
--- Document 01, "Records and groups", second and third paragraph, as request 06 amends it: groups, units, and the rows of
--- a group. Answer 9.
+-- Document 01, "Records and groups", second and third paragraph, as request 06 amends them: groups, units, and the rows
+-- of a group. Answer 9.
 --
 --   group        neighbouring records with the same non-zero group number; the same number further on is another group
 --   unit         a group or a single record

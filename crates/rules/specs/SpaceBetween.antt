@@ -1,7 +1,7 @@
 -- Request 06, "Both rows end together", said without the rule's floors: with two or more items a row of a group starts
--- and ends with the group, and only its inner gaps open. So it holds of both rows, and of equal ones. A single item
--- stands in the middle. In CSS this is `ruby-align: space-between`; in source document 001, 4.4.3.3, the first of the
--- other ways, to open the gaps between characters until both rows are equally long.
+-- and ends with the group, and only its inner gaps open; a single item stands in the middle; and the longer row does
+-- not open at all. In CSS this is `ruby-align: space-between`; in source document 001, 4.4.3.3, the first of the other
+-- ways, to open the gaps between characters until both rows are equally long.
 --
 --   row     items, each told by its offset from the group's start, and by its advance
 --   gap     from an item's end to the next one's start
@@ -38,3 +38,8 @@ pub record SpaceBetween (n : ℕ) (offset advance : ℕ → ℕ) (width : ℕ) :
 pub record Centred (offset advance width : ℕ) : Type 0 where
   pub before : 2 * offset + advance ≤ width
   pub after : width ≤ 2 * offset + advance + 1
+
+-- of a row of n items: the first stands at 0, and each directly after the one before
+pub record Solid (n : ℕ) (offset advance : ℕ → ℕ) : Type 0 where
+  pub starts : offset 0 ≡ 0
+  pub next : (k : ℕ) → suc k < n → offset (suc k) ≡ offset k + advance k
