@@ -52,12 +52,12 @@ fn import_dose_note(sheet: &mut [u32]) {
     print_slot(sheet, Clinic(7), SlotNumber(0), &DOSE_NOTE);
 }
 
-// In line 0 the base is the wider row, and its ruby is spread over it. In line 2 the ruby is, and its base stands
-// under the middle of it.
+// In line 0 the base is the longer row, and its ruby opens until both end together. In line 2 the ruby is, and its base
+// opens. In line 3 a single character stands in the middle.
 fn import_care_note(sheet: &mut [u32]) {
     say(b"\nClinic 8 imports an aftercare note into slot 1.\n");
     import(sheet, Clinic(8), SlotNumber(1), &CARE_NOTE);
-    say(b"Clinic 8 reads slot 1. Ruby is half as wide, and stands where its own x is.\n");
+    say(b"Clinic 8 reads slot 1. Ruby is half as wide. It and its base start and end together.\n");
     print_slot(sheet, Clinic(8), SlotNumber(1), &CARE_NOTE);
 }
 

@@ -55,7 +55,8 @@ module _ {n d w : ℕ} {offset advance solid : ℕ → ℕ} (row : SetRow n d w 
   pub row-within : (k : ℕ) → k < n → offset k + advance k ≤ w
   row-within k h =
       let last : n - suc k + suc k ≡ n = omega arith in
-      omega (arith, row .stands k h, row .next k, rises (suc k) (n - suc k), ap solid last, shift-small d n k h, row .end)
+      let to-end = rw last at (rises (suc k) (n - suc k)) in
+      omega (arith, row .stands k h, row .next k, to-end, shift-small d n k h, row .end)
 
   pub row-between : 2 ≤ n → SpaceBetween n offset advance w
   row-between many =
