@@ -138,8 +138,8 @@ const fn with_ruby(ruby_count: u32) -> Words {
     [0x6F22, 19, 80, 80, 1, ruby_count]
 }
 
-/// Request 06, "Both rows end together": groups among other records. The base row of five ruby characters over two
-/// ideographs falls short by 40, that of nine over four by 40 too, in three gaps.
+/// Request 06, "Both rows end together": groups among other records. Two ideographs fall short of five ruby characters
+/// by 40, and so do four of nine, in three gaps; one falls short of three by 40.
 pub const AMONG_OTHERS: [Case; 4] = [
     Case::new(
         "漢, five ruby over 漢漢, 漢",
@@ -181,8 +181,6 @@ pub const REQUEST_06: &str = "document 02, request 06";
 /// A group alone in its slot, and where the items of its two rows stand.
 #[derive(Debug, Clone, Copy)]
 pub struct GroupCase {
-    /// How many records, and how many ruby characters over them.
-    pub name: &'static str,
     /// The size of its records.
     pub size: u32,
     base: &'static [u32],
@@ -202,27 +200,27 @@ const fn solid<const N: usize>(advance: u32) -> [u32; N] {
     row
 }
 
-/// Request 06: the name, the size, the records' offsets and those of the ruby characters, and the longer row's width.
+/// Request 06: the size, the records' offsets, those of the ruby characters, and the longer row's width.
 pub const GROUPS: [GroupCase; 17] = [
-    GroupCase::new("2 and 3, C12", 80, &[0, 80], &[0, 60, 120], 160),
-    GroupCase::new("1 and 3, C13", 80, &[20], &[0, 40, 80], 120),
+    // C12 and C13.
+    GroupCase::new(80, &[0, 80], &[0, 60, 120], 160),
+    GroupCase::new(80, &[20], &[0, 40, 80], 120),
     // Single items: D = 40, 220, 132, 62,000 and 124,000.
-    GroupCase::new("1 and 1", 80, &[0], &[20], 80),
-    GroupCase::new("3 and 1", 88, &[0, 88, 176], &[110], 264),
-    GroupCase::new("1 and 5", 88, &[66], &[0, 44, 88, 132, 176], 220),
-    GroupCase::new("16 and 1", 4_000, &solid::<16>(4_000), &[31_000], 64_000),
-    GroupCase::new("1 and 64", 4_000, &[62_000], &solid::<64>(2_000), 128_000),
+    GroupCase::new(80, &[0], &[20], 80),
+    GroupCase::new(88, &[0, 88, 176], &[110], 264),
+    GroupCase::new(88, &[66], &[0, 44, 88, 132, 176], 220),
+    GroupCase::new(4_000, &solid::<16>(4_000), &[31_000], 64_000),
+    GroupCase::new(4_000, &[62_000], &solid::<64>(2_000), 128_000),
     // Two items: D = 80 and 40.
-    GroupCase::new("2 and 2", 80, &[0, 80], &[0, 120], 160),
-    GroupCase::new("2 and 5", 80, &[0, 120], &[0, 40, 80, 120, 160], 200),
+    GroupCase::new(80, &[0, 80], &[0, 120], 160),
+    GroupCase::new(80, &[0, 120], &[0, 40, 80, 120, 160], 200),
     // Equal rows.
-    GroupCase::new("3 and 6", 16, &[0, 16, 32], &[0, 8, 16, 24, 32, 40], 48),
+    GroupCase::new(16, &[0, 16, 32], &[0, 8, 16, 24, 32, 40], 48),
     // Longer by one ruby character, D = 4: in two gaps, in three, in six and in thirty.
-    GroupCase::new("2 and 3", 8, &[0, 8], &[0, 6, 12], 16),
-    GroupCase::new("4 and 9", 8, &[0, 9, 18, 28], &solid::<9>(4), 36),
-    GroupCase::new("4 and 7", 8, &[0, 8, 16, 24], &[0, 4, 9, 14, 18, 23, 28], 32),
+    GroupCase::new(8, &[0, 8], &[0, 6, 12], 16),
+    GroupCase::new(8, &[0, 9, 18, 28], &solid::<9>(4), 36),
+    GroupCase::new(8, &[0, 8, 16, 24], &[0, 4, 9, 14, 18, 23, 28], 32),
     GroupCase::new(
-        "16 and 31",
         8,
         &solid::<16>(8),
         &[
@@ -232,16 +230,14 @@ pub const GROUPS: [GroupCase; 17] = [
         128,
     ),
     // D = 40 in three gaps, D = 40 and 128 in fifteen.
-    GroupCase::new("4 and 9", 80, &[0, 93, 186, 280], &solid::<9>(40), 360),
+    GroupCase::new(80, &[0, 93, 186, 280], &solid::<9>(40), 360),
     GroupCase::new(
-        "16 and 33",
         80,
         &[0, 82, 165, 248, 330, 413, 496, 578, 661, 744, 826, 909, 992, 1_074, 1_157, 1_240],
         &solid::<33>(40),
         1_320,
     ),
     GroupCase::new(
-        "16 and 64",
         8,
         &[0, 16, 33, 49, 66, 82, 99, 115, 132, 148, 165, 181, 198, 214, 231, 248],
         &solid::<64>(4),
@@ -367,14 +363,14 @@ fn words(text: Text) -> Vec<u32> {
 }
 
 impl GroupCase {
-    const fn new(
-        name: &'static str,
-        size: u32,
-        base: &'static [u32],
-        ruby: &'static [u32],
-        advance: u32,
-    ) -> GroupCase {
-        GroupCase { name, size, base, ruby, advance }
+    const fn new(size: u32, base: &'static [u32], ruby: &'static [u32], advance: u32) -> GroupCase {
+        GroupCase { size, base, ruby, advance }
+    }
+
+    /// What it is called where a test tells of it.
+    pub fn name(&self) -> String {
+        let (records, size, ruby) = (self.base.len(), self.size, self.ruby.len());
+        format!("a group of {records} records of size {size} and {ruby} ruby characters")
     }
 
     /// The sum of its records' advances.

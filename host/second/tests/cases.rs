@@ -38,7 +38,7 @@ fn both_rows_of_every_group() {
     for group in GROUPS {
         let mut sheet = one_slot(group.measure(), 0);
         let answer = second::edit(&mut sheet, own(0, 0, &flat(&group.records())));
-        assert_eq!((answer, sheet), group.expected(CLINIC), "{} of size {}", group.name, group.size);
+        assert_eq!((answer, sheet), group.expected(CLINIC), "{}", group.name());
         row_of_ruby(group.base_advance(), group.size, group.ruby);
     }
 }

@@ -32,7 +32,7 @@ pub fn compare(program: &dyn Program, _scope: Scope) -> Result<Tally, Failure> {
     tally.add(&imports(program)?);
     for group in GROUPS {
         let (records, on_paper) = (group.records().concat(), group.expected(CLINIC));
-        tally.add(&composed(program, (REQUEST_06, group.name), group.measure(), &records, on_paper)?);
+        tally.add(&composed(program, (REQUEST_06, &group.name()), group.measure(), &records, on_paper)?);
         row_of_ruby(program, group.base_advance(), group.size, group.ruby)?;
     }
     for (base_advance, size, offsets) in RUBY {
@@ -69,7 +69,7 @@ fn row_of_ruby(program: &dyn Program, base_advance: u32, size: u32, expected: &[
     if offsets == expected {
         return Ok(());
     }
-    let name = format!("{count} ruby characters over {base_advance}, of size {size},");
+    let name = format!("a base advance of {base_advance}, size {size} and {count} ruby characters");
     Err(paper_failure(program, REQUEST_06, &name, format!("ruby stands at {offsets:?}")))
 }
 
