@@ -15,6 +15,7 @@ pub mod layout;
 pub mod one_slot;
 pub mod program;
 pub mod random;
+pub mod rows;
 pub mod run;
 pub mod shrink;
 pub mod tally;

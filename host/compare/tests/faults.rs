@@ -1,12 +1,13 @@
 //! Every planted fault is found, and the case that shows it is made small.
 
 use compare::comparisons::{
-    digits, gaps, junk, leaflet, limits, lists, pairs, paragraphs, redone, sequences, short, Comparison, ALL,
+    cases, digits, gaps, junk, leaflet, limits, lists, pairs, paragraphs, redone, ruby, sequences, short,
+    Comparison, ALL,
 };
 use compare::failure::{Failure, NOT_SEEN_AGAIN};
 use compare::faults::{
-    wrong_lists, Fault, Misimport, Misreading, ASKED_WRONGLY, CLASSES_AS, DIGITS, FIELDS, IMPORTED_WRONGLY,
-    LOOKUPS, MISIMPORTS, MISREADINGS, NARROW_FIELDS, SINGLE, TABLES,
+    wrong_lists, Fault, Misimport, Misreading, Misrow, ASKED_WRONGLY, CLASSES_AS, DIGITS, FIELDS,
+    IMPORTED_WRONGLY, IN_BOTH_ROWS, IN_RUBY, LOOKUPS, MISIMPORTS, MISREADINGS, NARROW_FIELDS, SINGLE, TABLES,
 };
 use compare::generate::plain;
 use compare::layout::{CLASSES, LINES};
@@ -100,6 +101,54 @@ fn sums_in_fields_wide_enough() {
         assert!(comparison(&packed, Scope::Brief).is_ok());
     }
     assert!(gaps::compare(&packed, Scope::Full).is_ok());
+}
+
+fn in_rows(misrows: &[Misrow], more: &[Misrow]) -> Vec<Fault> {
+    [misrows, more].concat().into_iter().map(Fault::Rows).collect()
+}
+
+#[test]
+fn rows_of_ruby_set_wrongly() {
+    let faults = in_rows(&IN_BOTH_ROWS, &IN_RUBY);
+    each_is_found(&faults, &[ruby::places], 1);
+    each_is_found(&faults, &[cases::compare], 2);
+}
+
+/// Each shows on the sheet, in the cases worked by hand, and among all other calls.
+#[test]
+fn base_rows_set_wrongly() {
+    let faults = in_rows(&IN_BOTH_ROWS, &[Misrow::OldBase]);
+    each_is_found(&faults, &[ruby::groups], 2);
+    each_is_found(&faults, &[cases::compare], 2);
+    each_is_found(&faults, &[sequences::compare], 8);
+}
+
+/// An edit without a change leaves places of document 01 as they are stored, or composes such places anew.
+#[test]
+fn places_as_document_01_has_them() {
+    let faults = in_rows(&[Misrow::StoredPlaces, Misrow::OuterGaps, Misrow::OldBase], &[]);
+    each_is_found(&faults, &[ruby::stored], 4);
+}
+
+/// A fault of one row is not seen in the other: both are compared, and what is stored besides.
+#[test]
+fn one_row_set_wrongly() {
+    let passes = |misrow, comparison: Comparison| comparison(&Fault::Rows(misrow), Scope::Brief).is_ok();
+    assert!(passes(Misrow::OldBase, ruby::places));
+    for misrow in IN_RUBY {
+        assert!(passes(misrow, ruby::groups) && passes(misrow, ruby::stored));
+    }
+    assert!(passes(Misrow::StoredPlaces, ruby::places) && passes(Misrow::StoredPlaces, ruby::groups));
+}
+
+/// The second program deals the gaps out; by the formula, rows stand alike.
+#[test]
+fn rows_set_by_the_formula() {
+    let sound = Fault::Rows(Misrow::Sound);
+    for comparison in ALL {
+        assert!(comparison(&sound, Scope::Brief).is_ok());
+    }
+    assert!(ruby::compare(&sound, Scope::Full).is_ok());
 }
 
 #[test]

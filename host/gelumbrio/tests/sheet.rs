@@ -297,10 +297,25 @@ fn lists() {
     assert_eq!(['(', '漢', '𠮷', '、', '（'].map(class_of), [Some(27), Some(19), Some(19), Some(7), None]);
 }
 
+/// Four records under nine ruby characters, which are 40 wider, between two others; then a single one under three.
+#[test]
+fn a_group_starts_and_ends_with_its_ruby() {
+    let mut sheet = sheet(520);
+    let grouped = |group, ruby_count| [0x6F22, 19, 80, 80, group, ruby_count];
+    let text = [&K[..], &grouped(1, 9).repeat(4), &K, &grouped(2, 3)].concat();
+    assert_eq!(sheet.edit(CLINIC, SLOT, 0, 0, &text), edited(2, 2));
+    let lines = sheet.lines(CLINIC, SLOT).unwrap();
+    assert_eq!((lines[0].xs.as_slice(), lines[0].end_x), (&[0, 80, 173, 266, 360, 440][..], 520));
+    assert_eq!((lines[1].xs.as_slice(), lines[1].end_x), (&[20][..], 120));
+}
+
 #[test]
 fn ruby() {
-    assert_eq!([0, 1, 2].map(|k| ruby_place(160, 3, 80, k)), [Ok(6), Ok(60), Ok(113)]);
+    assert_eq!([0, 1, 2].map(|k| ruby_place(160, 3, 80, k)), [Ok(0), Ok(60), Ok(120)]);
     assert_eq!([0, 1, 2].map(|k| ruby_place(80, 3, 80, k)), [Ok(0), Ok(40), Ok(80)]);
+    // A single one, and a difference that no three gaps can share evenly.
+    assert_eq!(ruby_place(45, 1, 80, 0), Ok(2));
+    assert_eq!([0, 1, 2, 3].map(|k| ruby_place(17, 4, 8, k)), [Ok(0), Ok(4), Ok(8), Ok(13)]);
     assert_eq!(ruby_place(160, 3, 80, 3), Err(Refusal::Ruby));
     assert_eq!(Refusal::Ruby.number(), 8);
 }

@@ -9,7 +9,7 @@
 //! | [`answer`] | "Refusal numbers, in the order they are checked" |
 //! | [`records`] | "Records and groups", a record's own rules and the group rules; request 04 |
 //! | [`lists`] | which characters a class has: document 02, request 04 |
-//! | [`units`] | "Records and groups", units and the two rows of a group |
+//! | [`units`] | "Records and groups", units and the two rows of a group; request 06 |
 //! | [`spacing`] | "Space between units", and how far each space gives way |
 //! | [`breaking`] | "Breaks and adjustment", where lines end; request 01 |
 //! | [`adjust`] | "Breaks and adjustment", how a line is brought to the measure |

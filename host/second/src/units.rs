@@ -1,4 +1,4 @@
-//! Units, and how the two rows of a group stand (document 01, "Records and groups").
+//! Units (document 01, "Records and groups"), and how the two rows of a group stand (document 02, request 06).
 
 use crate::answer::{Refusal, RubyPlace};
 use crate::records::{ruby_count_in_limits, size_in_limits, Class, Record};
@@ -41,10 +41,10 @@ impl<'a> Unit<'a> {
     pub fn record_offsets(&self) -> impl Iterator<Item = u32> + '_ {
         let count = self.records.len() as u32;
         let total: u32 = self.records.iter().map(|r| r.advance).sum();
-        let shortfall = self.advance - total;
+        let row = Row::new(count, self.advance - total);
         let mut solid = 0;
         (0..count).zip(self.records).map(move |(k, record)| {
-            let offset = solid + opening(shortfall, k, count);
+            let offset = solid + row.moved(k);
             solid += record.advance;
             offset
         })
@@ -83,14 +83,37 @@ fn ruby_advance(count: u32, size: u32) -> u32 {
     count * (size / 2)
 }
 
-/// How far item k of n in the shorter row is moved from its solid offset, where the row falls short
-/// of the other by D: floor(D(2k+1)/(2n)). The longer row has D = 0 and is solid.
-fn opening(shortfall: u32, k: u32, n: u32) -> u32 {
-    if shortfall == 0 {
-        return 0;
+/// How a row of a group stands beside the other (document 02, request 06).
+#[derive(Debug, Clone, Copy)]
+enum Row {
+    /// It is the longer one, or both are equal: its items stand without space.
+    Solid,
+    /// It is the shorter one and has a single item, which stands in the middle: this far from the start.
+    Single(u32),
+    /// It is the shorter one, and only its inner gaps open, so that both rows start and end together. Each gets the
+    /// same, and what is then left over of D, less than there are gaps, goes among them by ones.
+    Opened { gaps: u32, each: u32, left_over: u32 },
+}
+
+impl Row {
+    /// The row of n items that falls short of the other by D, which is 0 for the longer one.
+    fn new(n: u32, shortfall: u32) -> Row {
+        match (n, shortfall) {
+            (_, 0) => Row::Solid,
+            (0 | 1, _) => Row::Single(shortfall / 2),
+            _ => Row::Opened { gaps: n - 1, each: shortfall / (n - 1), left_over: shortfall % (n - 1) },
+        }
     }
-    let moved = u64::from(shortfall) * (2 * u64::from(k) + 1) / (2 * u64::from(n));
-    moved as u32
+
+    /// How far item k is moved from its solid offset. The k gaps before it hold k parts in n - 1 of what is left
+    /// over, rounded down, so that this is floor(Dk/(n-1)) of an opened row.
+    fn moved(self, k: u32) -> u32 {
+        match self {
+            Row::Solid => 0,
+            Row::Single(middle) => middle,
+            Row::Opened { gaps, each, left_over } => k * each + k * left_over / gaps,
+        }
+    }
 }
 
 /// The offset of the k-th ruby character from the start of its group (document 01, "The sheet").
@@ -102,8 +125,8 @@ pub fn ruby_place(base_advance: u32, ruby_count: u32, size: u32, k: u32) -> Ruby
     if !in_limits {
         return RubyPlace { number: Refusal::Record(0).number(), offset: 0 };
     }
-    let shortfall = base_advance.saturating_sub(ruby_advance(ruby_count, size));
-    RubyPlace { number: 0, offset: ruby_advance(k, size) + opening(shortfall, k, ruby_count) }
+    let row = Row::new(ruby_count, base_advance.saturating_sub(ruby_advance(ruby_count, size)));
+    RubyPlace { number: 0, offset: ruby_advance(k, size) + row.moved(k) }
 }
 
 #[cfg(test)]
@@ -139,18 +162,46 @@ mod tests {
         assert_eq!([1, 4, 5, 64].map(advance), [160, 160, 200, 2_560]);
     }
 
+    /// The offsets of so many records of size 80, in a group with so many ruby characters.
+    fn offsets(records: usize, ruby_count: u32) -> Vec<u32> {
+        let records = vec![record(16, 1, ruby_count); records];
+        let unit = units(&records)[0];
+        unit.record_offsets().collect()
+    }
+
     #[test]
-    fn the_shorter_base_row_is_opened() {
-        let offsets = |ruby_count, records| {
-            let records = vec![record(16, 1, ruby_count); records];
-            let unit = units(&records)[0];
-            unit.record_offsets().collect::<Vec<u32>>()
-        };
-        assert_eq!(offsets(3, 2), [0, 80]);
-        assert_eq!(offsets(5, 2), [10, 110]);
-        // D = 120, n = 3: 20, 60 and 100 beside the solid 0, 80 and 160.
-        assert_eq!(offsets(9, 3), [20, 140, 260]);
-        // D = 40, n = 3: 6, 20 and 33.
-        assert_eq!(offsets(7, 3), [6, 100, 193]);
+    fn the_longer_base_row_is_solid() {
+        assert_eq!(offsets(2, 3), [0, 80]);
+        assert_eq!(offsets(1, 1), [0]);
+        // Equal rows.
+        assert_eq!(offsets(2, 4), [0, 80]);
+    }
+
+    #[test]
+    fn the_shorter_base_row_is_opened_inside() {
+        // D = 40 in one gap.
+        assert_eq!(offsets(2, 5), [0, 120]);
+        // D = 120 in two gaps, 60 each.
+        assert_eq!(offsets(3, 9), [0, 140, 280]);
+        // D = 40, 20 each.
+        assert_eq!(offsets(3, 7), [0, 100, 200]);
+    }
+
+    #[test]
+    fn what_no_gap_can_have_in_full_is_rounded_down() {
+        // D = 40 in three gaps: 0, 13, 26 and 40 beside the solid 0, 80, 160 and 240.
+        assert_eq!(offsets(4, 9), [0, 93, 186, 280]);
+        // D = 80 in three gaps: 0, 26, 53 and 80.
+        assert_eq!(offsets(4, 10), [0, 106, 213, 320]);
+        // D = 40 in six gaps: 0, 6, 13, 20, 26, 33 and 40.
+        assert_eq!(offsets(7, 15), [0, 86, 173, 260, 346, 433, 520]);
+    }
+
+    #[test]
+    fn a_single_record_stands_in_the_middle() {
+        assert_eq!(
+            [2, 3, 4, 5, 64].map(|ruby_count| offsets(1, ruby_count)),
+            [[0], [20], [40], [60], [1_240]]
+        );
     }
 }

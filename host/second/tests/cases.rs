@@ -3,7 +3,7 @@
 mod common;
 
 use common::{edit, flat, k, one_slot, own, CLINIC};
-use second::by_hand::{PAPERS, RUBY};
+use second::by_hand::{GROUPS, PAPERS, RUBY};
 use second::{ruby_place, RubyPlace};
 
 #[test]
@@ -34,9 +34,25 @@ fn c3_whole() {
 }
 
 #[test]
-fn ruby() {
-    for (name, base_advance, offsets) in RUBY {
-        let places = [0, 1, 2].map(|k| ruby_place(base_advance, 3, 80, k));
-        assert_eq!(places, offsets.map(|offset| RubyPlace { number: 0, offset }), "{name}");
+fn both_rows_of_every_group() {
+    for group in GROUPS {
+        let mut sheet = one_slot(group.measure(), 0);
+        let answer = second::edit(&mut sheet, own(0, 0, &flat(&group.records())));
+        assert_eq!((answer, sheet), group.expected(CLINIC), "{}", group.name());
+        row_of_ruby(group.base_advance(), group.size, group.ruby);
     }
+}
+
+#[test]
+fn ruby_over_any_base_advance() {
+    for (base_advance, size, offsets) in RUBY {
+        row_of_ruby(base_advance, size, offsets);
+    }
+}
+
+fn row_of_ruby(base_advance: u32, size: u32, offsets: &[u32]) {
+    let count = offsets.len() as u32;
+    let places: Vec<RubyPlace> = (0..count).map(|k| ruby_place(base_advance, count, size, k)).collect();
+    let expected: Vec<RubyPlace> = offsets.iter().map(|&offset| RubyPlace { number: 0, offset }).collect();
+    assert_eq!(places, expected, "{count} of size {size} over {base_advance}");
 }

@@ -1,9 +1,9 @@
 //! C1 to C13 (document 01, "Composed by hand") and the cases of document 02's requests, against the
 //! numbers on the paper and beside the second program.
 
-use second::by_hand::{self, EDITS, PAPERS, RUBY};
+use second::by_hand::{self, EDITS, GROUPS, PAPERS, REQUEST_06, RUBY};
 use second::leaflet::by_hand::{all_refused, ACCEPTED, SIZE};
-use second::{Edit, ImportAnswer};
+use second::{Edit, EditAnswer, ImportAnswer};
 
 use crate::calls::{Call, Case};
 use crate::failure::Failure;
@@ -23,31 +23,54 @@ pub fn compare(program: &dyn Program, _scope: Scope) -> Result<Tally, Failure> {
     let mut tally = Tally::default();
     let cases = PAPERS.into_iter().flat_map(|(paper, cases)| cases.iter().map(move |case| (paper, case)));
     for (paper, case) in cases {
-        let calls = vec![
-            Call::SetUp { clinics: vec![CLINIC], measures: vec![case.measure], indents: vec![0] },
-            Call::replace(CLINIC, 0, &case.records.concat()),
-            Call::Read { caller: CLINIC, slot: 0 },
-        ];
-        let beside = Case { length: SLOT, junk: None, calls };
-        match run(program, &beside) {
-            Ok(seen) => tally.add(&seen),
-            Err(_) => return Err(Failure::new(TEST, None, program, &beside)),
-        }
-        as_on_paper(program, case)
-            .map_err(|difference| paper_failure(program, paper, case.name, difference))?;
+        let on_paper = case.expected(CLINIC);
+        tally.add(&composed(program, (paper, case.name), case.measure, &case.records.concat(), on_paper)?);
     }
     for case in EDITS {
         tally.add(&edit(program, &case)?);
     }
     tally.add(&imports(program)?);
-    for (name, base_advance, expected) in RUBY {
-        let offsets = [0, 1, 2].map(|k| program.ruby_place(base_advance, 3, 80, k).offset);
-        if offsets != expected {
-            let difference = format!("ruby stands at {offsets:?}");
-            return Err(paper_failure(program, "document 01", name, difference));
-        }
+    for group in GROUPS {
+        let (records, on_paper) = (group.records().concat(), group.expected(CLINIC));
+        tally.add(&composed(program, (REQUEST_06, &group.name()), group.measure(), &records, on_paper)?);
+        row_of_ruby(program, group.base_advance(), group.size, group.ruby)?;
+    }
+    for (base_advance, size, offsets) in RUBY {
+        row_of_ruby(program, base_advance, size, offsets)?;
     }
     Ok(tally)
+}
+
+/// Records in a fresh slot, beside the second program and as on the paper.
+fn composed(
+    program: &dyn Program,
+    (paper, name): (&str, &str),
+    measure: u32,
+    records: &[u32],
+    on_paper: (EditAnswer, Vec<u32>),
+) -> Result<Tally, Failure> {
+    let calls = vec![
+        Call::SetUp { clinics: vec![CLINIC], measures: vec![measure], indents: vec![0] },
+        Call::replace(CLINIC, 0, records),
+        Call::Read { caller: CLINIC, slot: 0 },
+    ];
+    let beside = Case { length: SLOT, junk: None, calls };
+    let seen = run(program, &beside).map_err(|_| Failure::new(TEST, None, program, &beside))?;
+    as_on_paper(program, measure, records, on_paper)
+        .map_err(|difference| paper_failure(program, paper, name, difference))?;
+    Ok(seen)
+}
+
+/// A row of ruby as on the paper of request 06.
+fn row_of_ruby(program: &dyn Program, base_advance: u32, size: u32, expected: &[u32]) -> Result<(), Failure> {
+    let count = expected.len() as u32;
+    let offsets: Vec<u32> =
+        (0..count).map(|k| program.ruby_place(base_advance, count, size, k).offset).collect();
+    if offsets == expected {
+        return Ok(());
+    }
+    let name = format!("a base advance of {base_advance}, size {size} and {count} ruby characters");
+    Err(paper_failure(program, REQUEST_06, &name, format!("ruby stands at {offsets:?}")))
 }
 
 /// An edit of request 03, beside the second program and as on the paper.
@@ -90,13 +113,15 @@ fn paper_failure(program: &dyn Program, paper: &str, name: &str, difference: Str
 }
 
 /// Whether the answer and every word are those of the paper.
-fn as_on_paper(program: &dyn Program, case: &by_hand::Case) -> Result<(), String> {
+fn as_on_paper(
+    program: &dyn Program,
+    measure: u32,
+    records: &[u32],
+    (answer, words): (EditAnswer, Vec<u32>),
+) -> Result<(), String> {
     let mut sheet = vec![0; SLOT];
-    program.set_up(&mut sheet, &[CLINIC], &[case.measure], &[0]);
-    let inserted = case.records.concat();
-    let edit = Edit { caller: CLINIC, slot: 0, place: 0, deleted: 0, inserted: &inserted };
-    let answer = program.edit(&mut sheet, edit);
-    let (expected, words) = case.expected(CLINIC);
-    same_answer(answer, expected, PAPER)?;
+    program.set_up(&mut sheet, &[CLINIC], &[measure], &[0]);
+    let edit = Edit { caller: CLINIC, slot: 0, place: 0, deleted: 0, inserted: records };
+    same_answer(program.edit(&mut sheet, edit), answer, PAPER)?;
     same_words(&sheet, &words, PAPER)
 }

@@ -9,6 +9,7 @@ mod imports;
 mod lists;
 mod reader;
 mod redone;
+mod rows;
 mod slots;
 
 use std::ops::Range;
@@ -21,6 +22,7 @@ use crate::program::{Program, Second, SECOND};
 pub use imports::{Misimport, IMPORTED_WRONGLY, MISIMPORTS};
 pub use lists::{wrong_lists, Mislisting, ASKED_WRONGLY, LOOKUPS};
 pub use redone::{Misreading, MISREADINGS};
+pub use rows::{Misrow, IN_BOTH_ROWS, IN_RUBY};
 use slots::{keep_all_but_heads, keep_texts, whole_slots};
 
 /// A wrong program.
@@ -110,8 +112,6 @@ pub enum Fault {
     LetterHeld,
     /// Every numeric character of class 27 holds it, as ² and ①.
     NumericHeld,
-    /// Ruby offsets are rounded up.
-    RubyUp,
     /// Ruby place takes an index equal to the count.
     RubyOneMore,
     /// One class is set as if it were another of the same advance.
@@ -130,6 +130,8 @@ pub enum Fault {
     /// A line's gaps are added up in one word, whose fields have so many bits: least widths, shrink stages 1 and 2,
     /// weights. What a field cannot hold is carried into the next.
     Fields([u32; 4]),
+    /// The rows of groups stand wrongly.
+    Rows(Misrow),
     /// An edit misreports how many lines it composed anew.
     Redone(Misreading),
     /// The published lists are wrong, or are asked wrongly.
@@ -138,8 +140,8 @@ pub enum Fault {
     Imported(Misimport),
 }
 
-/// Every fault but those of digits, classes, gaps, redone lines, lists and imports.
-pub const SINGLE: [Fault; 40] = [
+/// Every fault but those of digits, classes, gaps, rows, redone lines, lists and imports.
+pub const SINGLE: [Fault; 39] = [
     Fault::NaturalBreaks,
     Fault::DamageBeforeCaller,
     Fault::LeftoverToLastGap,
@@ -178,7 +180,6 @@ pub const SINGLE: [Fault; 40] = [
     Fault::ReadJudges,
     Fault::NarrowRuby,
     Fault::DashesAlike,
-    Fault::RubyUp,
     Fault::RubyOneMore,
 ];
 
@@ -290,12 +291,7 @@ impl Program for Fault {
     fn ruby_place(&self, base_advance: u32, ruby_count: u32, size: u32, k: u32) -> RubyPlace {
         let right = Second.ruby_place(base_advance, ruby_count, size, k);
         match self {
-            Fault::RubyUp if right.number == 0 => {
-                let shortfall = u64::from(base_advance.saturating_sub(ruby_count * size / 2));
-                let halves = shortfall * u64::from(2 * k + 1);
-                let left_over = halves % u64::from(2 * ruby_count) != 0;
-                RubyPlace { number: 0, offset: right.offset + u32::from(left_over) }
-            }
+            Fault::Rows(misrow) if right.number == 0 => misrow.ruby_place(base_advance, ruby_count, size, k),
             Fault::RubyOneMore if k == ruby_count => {
                 Second.ruby_place(base_advance, ruby_count, size, k.saturating_sub(1))
             }

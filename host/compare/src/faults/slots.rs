@@ -69,6 +69,7 @@ pub fn spoil_slot(fault: Fault, slot: &mut [u32], old: &[u32]) {
         }
         Fault::LastRecord if records == 256 => slot[LINES - 2..LINES].fill(0),
         Fault::LastLine if lines == 256 => slot[SLOT - 3..].fill(0),
+        Fault::Rows(misrow) => misrow.spoil_slot(slot, old),
         Fault::PairShifted(left, right) => shift_pair(slot, left, right),
         Fault::OtherSide(..)
         | Fault::NextStage(..)
