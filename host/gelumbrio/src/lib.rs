@@ -68,9 +68,9 @@ pub use sheet::{
 /// `base_advance` is the sum of the base characters' advances; `size` is theirs, and a ruby
 /// character's is half of it.
 ///
-/// Where the ruby is narrower than its base, two or more characters start and end together with it, and the gaps
-/// between them open alike; a single one stands in the middle. Where it is wider, its characters stand close, and
-/// the base under them is opened or centred in the same way.
+/// Where the ruby is shorter than its base, two or more characters start and end together with it, and the gaps
+/// between them open alike; a single one stands in the middle. Where it is longer, it is set solid, and the base
+/// under it is opened or centred in the same way: in [`Line::xs`].
 ///
 /// ```
 /// use gelumbrio::ruby_place;
