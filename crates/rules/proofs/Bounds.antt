@@ -1,5 +1,5 @@
--- How large a size and a group's numbers get, so that the program's sums and products fit 32 bits.
--- Assumes nothing.
+-- How large a size, a group's numbers and the shifts in its shorter row get; so the program's sums and products fit 32
+-- bits. Assumes nothing.
 use mathlib.Core.Path.{_≡_}
 use Prim.Native.Nat.{ℕ, _+_, _*_, _-_, _/_, _%_, _≤_, _<_}
 use native.Mathlib.Omega.{arith}
@@ -20,7 +20,7 @@ rubyTotal-small n s h k =
     let half : s / 2 ≤ 2000 = omega arith in
     mul-le-mul h half
 
--- Of two or more items in the shorter row the first is not shifted, and the last by all of the difference
+-- of two or more items in the shorter row the first is not shifted, and the last by all of the difference
 pub shift-first : (d n : ℕ) → 2 ≤ n → shift d n 0 ≡ 0
 unfolding shift
 shift-first d n h = rw (le-leb 2 n h) (none-yet d _)
