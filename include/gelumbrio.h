@@ -54,7 +54,8 @@ typedef struct Answer { uint32_t number, place; } Answer;
  *   r is the first new line, from f on and not line 0, that starts at or after the end of the inserted records and
  *     whose first record also started an old line, not line 0; where there is none, it is the line count.
  * New lines before f are the old ones, with their places. Those from r on are old ones too, moved only by the change
- * in record and line numbers. The old lines are those that the rules give the old records, whatever is stored. */
+ * in record and line numbers. The old lines are those that the rules give the old records, whatever is stored: in a
+ * slot that an older rule composed, places outside these lines may move too. */
 typedef struct EditAnswer { uint32_t number, place, redone; } EditAnswer;
 typedef struct RubyPlace { uint32_t number, offset; } RubyPlace;
 
@@ -103,7 +104,11 @@ uint32_t gelumbrio_in_list(uint32_t class_number, uint32_t code);
 /* The class that a code point gets: 27 where that list has it, else the lowest-numbered list's, else 0. */
 uint32_t gelumbrio_class_of(uint32_t code);
 
-/* The offset of ruby character k from the start of a group of this base advance, ruby count and size. */
+/* The offset of ruby character k, from 0 on, from the start of a group of this base advance, ruby count and size.
+ *   A ruby character is half the size wide. The longer of the two rows, base and ruby, is set solid. In the shorter one
+ * only the inner gaps open, evenly, so that both start and end together; a single character stands in the middle. The
+ * places of the base characters are on the sheet. So a group of two or more records starts at its first record's x; one
+ * of a single record, whose ruby is longer by D, starts D/2 before it, rounded down. */
 RubyPlace gelumbrio_ruby_place(uint32_t base_advance, uint32_t ruby_count, uint32_t size, uint32_t k);
 
 #ifdef __cplusplus

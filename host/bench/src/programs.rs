@@ -1,5 +1,6 @@
 //! The calls of both programs behind one set of function pointers.
 
+use std::hint::black_box;
 use std::ops::Range;
 
 type SetUp = fn(&mut [u32], &[u32], &[u32], &[u32]) -> u32;
@@ -11,7 +12,7 @@ type Import = fn(&mut [u32], u32, u32, u32, &[u8]) -> u32;
 pub const PROVED: &str = "proved";
 pub const SECOND: &str = "second";
 
-/// A program's calls on raw words. Set-up, edit and import say their number.
+/// A program's calls on raw words. Set-up, edit, import and ruby place say their number.
 #[derive(Clone, Copy)]
 pub struct Program {
     /// The column's name.
@@ -21,6 +22,7 @@ pub struct Program {
     pub import: Import,
     pub read_number: fn(&[u32], u32, u32) -> u32,
     pub read: fn(&[u32], u32, u32) -> Range<usize>,
+    pub ruby_place: fn(u32, u32, u32, u32) -> u32,
 }
 
 const SECOND_PROGRAM: Program = Program {
@@ -34,6 +36,9 @@ const SECOND_PROGRAM: Program = Program {
     },
     read_number: second::read_number,
     read: second::read,
+    ruby_place: |base_advance, ruby_count, size, k| {
+        black_box(second::ruby_place(base_advance, ruby_count, size, k)).number
+    },
 };
 
 #[cfg(feature = "proved")]
@@ -50,6 +55,9 @@ const PROVED_PROGRAM: Program = {
         },
         read_number: |sheet, caller, slot| raw::read_number(sheet, Clinic(caller), SlotNumber(slot)),
         read: |sheet, caller, slot| raw::read(sheet, Clinic(caller), SlotNumber(slot)),
+        ruby_place: |base_advance, ruby_count, size, k| {
+            black_box(raw::ruby_place(base_advance, ruby_count, size, k)).number
+        },
     }
 };
 

@@ -123,6 +123,12 @@ pub fn latin(records: u32) -> Vec<u32> {
     repeated(western, records)
 }
 
+/// A text of groups, each of four records under ruby that is longer, so that every base row is opened.
+pub fn opened(records: u32) -> Vec<u32> {
+    let group = |nth| phrase_records("抗生物質", nth + 1, 9);
+    (0..records.div_ceil(4)).flat_map(group).take(records as usize).flatten().collect()
+}
+
 /// A text of ideographs, of each block in turn.
 pub fn rare(records: u32) -> Vec<u32> {
     let ideograph = |nth: u32| {

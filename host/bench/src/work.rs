@@ -4,7 +4,7 @@ use std::hint::black_box;
 
 use crate::programs::{self, Program};
 use crate::texts::{
-    imported, latin, leaflets, prose, rare, record, text, with_last_unlisted, Words, LEAFLETS,
+    imported, latin, leaflets, opened, prose, rare, record, text, with_last_unlisted, Words, LEAFLETS,
     LEAFLET_RECORDS, SIZE,
 };
 use crate::timing::Cell;
@@ -34,7 +34,7 @@ const ONE_OF_256_OVER_64_TEXTS: &str = "replace 1 of 256, 64 texts";
 /// Makes a row's cell for a program.
 type Row = fn(Program) -> Cell;
 
-const ROWS: [Row; 17] = [
+const ROWS: [Row; 19] = [
     |program| replace_all(program, "replace all 256"),
     |program| replace_one(program, ONE_OF_256, &text(256), [15, 19], 1),
     |program| replace_one(program, ONE_OF_128, &text(128), [15, 19], 1),
@@ -43,10 +43,12 @@ const ROWS: [Row; 17] = [
     // The list of class 27 is the longest, and of the ideographs the blocks are asked.
     |program| replace_one(program, "replace 1 of 256, Latin", &latin(256), [14, 27], 1),
     |program| replace_one(program, "replace 1 of 256, rare kanji", &rare(256), [15, 19], 1),
+    |program| replace_one(program, "replace 1 of 256, opened groups", &opened(256), [15, 19], 1),
     |program| replace_one_of_each(program, ONE_OF_256_OVER_64_TEXTS),
     |program| refused(program, "refused with 3", CLINIC + 1, record(19, SIZE), 3),
     |program| refused(program, "refused with 10", CLINIC, record(19, 4_000), 10),
     |program| read(program, "read"),
+    |program| ruby_place(program, "ruby place"),
     |program| set_up(program, "set-up of 64 slots"),
     |program| import(program, IMPORT),
     |program| edit_of_import(program, EDIT_OF_IMPORT),
@@ -146,6 +148,16 @@ fn read(program: Program, row: &'static str) -> Cell {
         let number = (program.read_number)(sheet, CLINIC, 0);
         let part = (program.read)(sheet, CLINIC, 0);
         assert!(number == 0 && !black_box(part).is_empty());
+    })
+}
+
+/// Where ruby stands over two records that are longer, of each of three characters in turn.
+fn ruby_place(program: Program, row: &'static str) -> Cell {
+    let mut k = 0;
+    Cell::new(row, program.name, move || {
+        k = (k + 1) % 3;
+        let number = (program.ruby_place)(black_box(2 * SIZE), black_box(3), black_box(SIZE), black_box(k));
+        assert_eq!(number, 0);
     })
 }
 
