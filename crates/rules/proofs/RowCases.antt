@@ -17,7 +17,7 @@ other = sized 0x4E00 19 80 2 3
 
 pub group-rows : List Row
 group-rows =
-    -- the ruby row is shorter: D is 80 of 2; 80 of 4, in thirds; 120 of 1
+    -- the ruby row is shorter: D is 80 of 2; 80 of 4, in thirds; 120 and 40 of 1
     row 400 (under 2 ∷ under 2 ∷ []) (0 ∷ 1 ∷ 0 ∷ 0 ∷ 80 ∷ 0 ∷ 0 ∷ 160 ∷ 3 ∷ 0 ∷ 120 ∷ [])
     ∷ row 400 (under 4 ∷ under 4 ∷ under 4 ∷ [])
     (0 ∷ 1 ∷ 0 ∷ 0 ∷ 80 ∷ 0 ∷ 160 ∷ 0 ∷ 0 ∷ 240 ∷ 3 ∷ 0 ∷ 66 ∷ 133 ∷ 200 ∷ [])

@@ -28,7 +28,8 @@ pub struct Sheet {
 /// What an accepted edit or import did to the lines of its slot.
 ///
 /// New lines before the redone ones are as they were, with the places of their records. Those after them
-/// are old lines, moved only by the change in record and line numbers.
+/// are old lines, moved only by the change in record and line numbers. Old lines are those that the rules
+/// give the old records: in a slot that an older rule composed, places outside the redone lines may move too.
 #[derive(Debug, Clone, Copy, PartialEq, Eq)]
 pub struct Edited {
     /// How many lines the slot has.

@@ -5,7 +5,7 @@ mod groups;
 
 use crate::answer::{EditAnswer, Edited, Refusal};
 
-pub use groups::{GroupCase, GROUPS, RUBY};
+pub use groups::{GroupCase, AMONG_OTHERS, GROUPS, REQUEST_06, RUBY};
 
 type Words = [u32; 6];
 
@@ -136,43 +136,6 @@ pub const LISTED: [Case; 14] = [
     Case::refused("12 before 10", &[K, COMMA_AS_19], 79, Refusal::NotListed(1)),
     Case::new("𠮷, of extension B", &[of_class('𠮷', 19)], 80, Ok(&[(&[0], 80, 3)])),
 ];
-
-/// An ideograph of a group with so many ruby characters.
-const fn with_ruby(ruby_count: u32) -> Words {
-    [0x6F22, 19, 80, 80, 1, ruby_count]
-}
-
-/// Request 06, "Both rows end together": groups among other records. Two ideographs fall short of five ruby characters
-/// by 40, and so do four of nine, in three gaps; one falls short of three by 40.
-pub const AMONG_OTHERS: [Case; 4] = [
-    Case::new(
-        "漢, five ruby over 漢漢, 漢",
-        &[K, with_ruby(5), with_ruby(5), K],
-        400,
-        Ok(&[(&[0, 80, 200, 280], 360, 3)]),
-    ),
-    Case::new(
-        "the same, stretched",
-        &[K, with_ruby(5), with_ruby(5), K, K],
-        400,
-        Ok(&[(&[0, 100, 220, 320], 400, 1), (&[0], 80, 3)]),
-    ),
-    Case::new(
-        "nine ruby over 漢漢漢漢, stretched",
-        &[K, with_ruby(9), with_ruby(9), with_ruby(9), with_ruby(9), K],
-        459,
-        Ok(&[(&[0, 99, 192, 285, 379], 459, 1), (&[0], 80, 3)]),
-    ),
-    Case::new(
-        "three ruby over 漢, on a line of their own",
-        &[K, with_ruby(3), K],
-        120,
-        Ok(&[(&[0], 80, 2), (&[20], 120, 1), (&[0], 80, 3)]),
-    ),
-];
-
-/// The paper of both rows of a group.
-pub const REQUEST_06: &str = "document 02, request 06";
 
 /// All cases, by the paper that asks for them.
 pub const PAPERS: [(&str, &[Case]); 4] = [

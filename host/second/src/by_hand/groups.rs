@@ -1,7 +1,45 @@
-//! Both rows of groups (document 02, request 06): groups alone in their slots, and rows of ruby over any base advance.
+//! Both rows of groups (document 02, request 06): groups among other records, alone in their slots, and rows of ruby over
+//! any base advance.
 
-use super::{composed, Words};
+use super::{composed, Case, Words, K};
 use crate::answer::EditAnswer;
+
+/// The paper of both rows of a group.
+pub const REQUEST_06: &str = "document 02, request 06";
+
+/// An ideograph of a group with so many ruby characters.
+const fn with_ruby(ruby_count: u32) -> Words {
+    [0x6F22, 19, 80, 80, 1, ruby_count]
+}
+
+/// Request 06, "Both rows end together": groups among other records. Two ideographs fall short of five ruby characters
+/// by 40, and so do four of nine, in three gaps; one falls short of three by 40.
+pub const AMONG_OTHERS: [Case; 4] = [
+    Case::new(
+        "漢, five ruby over 漢漢, 漢",
+        &[K, with_ruby(5), with_ruby(5), K],
+        400,
+        Ok(&[(&[0, 80, 200, 280], 360, 3)]),
+    ),
+    Case::new(
+        "the same, stretched",
+        &[K, with_ruby(5), with_ruby(5), K, K],
+        400,
+        Ok(&[(&[0, 100, 220, 320], 400, 1), (&[0], 80, 3)]),
+    ),
+    Case::new(
+        "nine ruby over 漢漢漢漢, stretched",
+        &[K, with_ruby(9), with_ruby(9), with_ruby(9), with_ruby(9), K],
+        459,
+        Ok(&[(&[0, 99, 192, 285, 379], 459, 1), (&[0], 80, 3)]),
+    ),
+    Case::new(
+        "three ruby over 漢, on a line of their own",
+        &[K, with_ruby(3), K],
+        120,
+        Ok(&[(&[0], 80, 2), (&[20], 120, 1), (&[0], 80, 3)]),
+    ),
+];
 
 /// A group alone in its slot, and where the items of its two rows stand.
 #[derive(Debug, Clone, Copy)]
