@@ -57,9 +57,7 @@ fn import_dose_note(sheet: &mut [u32]) {
 fn import_care_note(sheet: &mut [u32]) {
     say(b"\nClinic 8 imports an aftercare note into slot 1.\n");
     import(sheet, Clinic(8), SlotNumber(1), &CARE_NOTE);
-    say(
-        b"Clinic 8 reads slot 1. Ruby and base start and end together; a single one is in the middle.\n",
-    );
+    say(b"Clinic 8 reads slot 1. Ruby and base end together; a single one stands in the middle.\n");
     print_slot(sheet, Clinic(8), SlotNumber(1), &CARE_NOTE);
 }
 
