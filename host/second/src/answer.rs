@@ -1,11 +1,12 @@
 //! What the calls answer (document 01, "Refusal numbers, in the order they are checked").
 
-/// The answer of set-up: 0 and P, or a refusal's number and place.
+/// The answer of set-up, 0 and P; of taking, 0 and the slot's number; of giving back, 0 and 0. Or a refusal's number
+/// and place.
 #[derive(Debug, Clone, Copy, PartialEq, Eq)]
 pub struct Answer {
     /// 0, or the refusal's number.
     pub number: u32,
-    /// P where the number is 0, otherwise the refusal's place.
+    /// What goes with the number 0, otherwise the refusal's place.
     pub place: u32,
 }
 
@@ -55,7 +56,7 @@ pub struct Edited {
 }
 
 impl From<Result<usize, Refusal>> for Answer {
-    /// From P, or why set-up is refused.
+    /// From what goes with 0, or why the call is refused.
     fn from(outcome: Result<usize, Refusal>) -> Answer {
         let (number, place) = number_and_place(outcome);
         Answer { number, place }
@@ -75,10 +76,10 @@ impl From<Refusal> for EditAnswer {
     }
 }
 
-/// The row of document 01's table, where 0 has the count as its place.
+/// The row of document 01's table, where 0 has this as its place.
 fn number_and_place(outcome: Result<usize, Refusal>) -> (u32, u32) {
     match outcome {
-        Ok(count) => (0, count as u32),
+        Ok(place) => (0, place as u32),
         Err(refusal) => (refusal.number(), refusal.place()),
     }
 }
@@ -101,6 +102,10 @@ pub enum Refusal {
     Slot,
     /// 3: the slot is not the caller's.
     Caller,
+    /// 13: the caller has no slot to take (document 02, request 07).
+    NoneFree,
+    /// 14: the slot is not in use (document 02, request 07).
+    NotInUse,
     /// 4: what the slot holds is damaged.
     Stored,
     /// 5: the place or the deletion passes the end; carries the record count.
@@ -128,6 +133,8 @@ impl Refusal {
             Refusal::Length => 1,
             Refusal::Slot => 2,
             Refusal::Caller => 3,
+            Refusal::NoneFree => 13,
+            Refusal::NotInUse => 14,
             Refusal::Stored => 4,
             Refusal::Place(_) => 5,
             Refusal::Words => 6,

@@ -1,11 +1,15 @@
 //! Cases composed by hand, for the tests of this program and of any other: those of document 01
 //! ("Composed by hand"), and those of document 02's requests.
 
+mod edits;
 mod groups;
+mod pool;
 
 use crate::answer::{EditAnswer, Edited, Refusal};
 
+pub use edits::{EditCase, EDITS};
 pub use groups::{GroupCase, AMONG_OTHERS, GROUPS, REQUEST_06, RUBY};
+pub use pool::{TakeCase, UseCase, REQUEST_07, TAKES, USES, USES_SET_UP};
 
 type Words = [u32; 6];
 
@@ -32,6 +36,8 @@ const COMMA: Words = [0x3001, 7, 80, 40, 0, 0];
 const OPENING: Words = [0x300C, 1, 80, 40, 0, 0];
 const CLOSING: Words = [0x300D, 2, 80, 40, 0, 0];
 const WESTERN: Words = [0x41, 27, 80, 40, 0, 0];
+/// An ideograph of a group with 2 ruby characters.
+const RUBY_K: Words = [0x6F22, 19, 80, 80, 1, 2];
 /// An ideograph of a group with 3 ruby characters.
 const GROUPED: Words = [0x6F22, 19, 80, 80, 1, 3];
 
@@ -148,105 +154,13 @@ pub const PAPERS: [(&str, &[Case]); 4] = [
 /// Records one after another, so many of each.
 type Text = &'static [(usize, Words)];
 
-/// An edit of a composed slot, and which lines it composes anew.
-#[derive(Debug, Clone, Copy)]
-pub struct EditCase {
-    /// What is done where.
-    pub name: &'static str,
-    /// The measure and the indent.
-    pub setting: (u32, u32),
-    old: Text,
-    /// The edit place.
-    pub place: u32,
-    /// How many records are deleted.
-    pub deleted: u32,
-    inserted: Text,
-    /// Request 03's f and r: the first line composed anew, and the first after those.
-    pub redone: (u32, u32),
-    /// The new line count.
-    pub lines: u32,
-}
-
-/// An ideograph a tenth as wide as the others.
-const SMALL: Words = [0x6F22, 19, 8, 8, 0, 0];
-/// An ideograph of a group with 2 ruby characters.
-const RUBY_K: Words = [0x6F22, 19, 80, 80, 1, 2];
-/// Six lines of five in measure 440.
-const SIX_LINES: Text = &[(30, K)];
-/// Lines of five, five and five in measure 400; the second has the full stop.
-const STOP_IN_LINE_1: Text = &[(6, K), (1, FULL_STOP), (8, K)];
-
-/// Request 03, "How many lines did my edit redo?".
-pub const EDITS: [EditCase; 18] = [
-    EditCase::new("one of the last line", (440, 0), SIX_LINES, (27, 1, &[(1, K)]), (4, 6), 6),
-    EditCase::new("its own line has room", (440, 0), SIX_LINES, (12, 0, &[(1, SMALL)]), (1, 3), 6),
-    EditCase::new("every later line moves on by one", (440, 0), SIX_LINES, (12, 0, &[(1, K)]), (1, 7), 7),
-    EditCase::new("at the end", (440, 0), SIX_LINES, (30, 0, &[(1, K)]), (4, 7), 7),
-    EditCase::new("at the start", (440, 0), SIX_LINES, (0, 0, &[(1, K)]), (0, 7), 7),
-    EditCase::new("a line before line 0", (440, 0), SIX_LINES, (0, 0, &[(5, K)]), (0, 2), 7),
-    EditCase::new("two lines, by their like", (440, 0), SIX_LINES, (5, 10, &[(10, K)]), (0, 3), 6),
-    EditCase::new("line 0 goes", (440, 0), SIX_LINES, (0, 5, &[]), (0, 1), 5),
-    EditCase::new("into an empty slot", (440, 0), &[], (0, 0, &[(6, K)]), (0, 2), 2),
-    EditCase::new("everything goes", (440, 0), SIX_LINES, (0, 30, &[]), (0, 0), 0),
-    EditCase::new("the last lines go", (440, 0), SIX_LINES, (15, 15, &[]), (2, 3), 3),
-    EditCase::new("nothing at the end", (440, 0), SIX_LINES, (30, 0, &[]), (4, 6), 6),
-    EditCase::new("nothing in the middle", (440, 0), SIX_LINES, (12, 0, &[]), (1, 3), 6),
-    EditCase::new("nothing in an empty slot", (440, 0), &[], (0, 0, &[]), (0, 0), 0),
-    EditCase::new(
-        "a group is joined across the place and leaves its line",
-        (400, 0),
-        &[(14, K), (1, RUBY_K), (10, K)],
-        (15, 0, &[(1, RUBY_K)]),
-        (2, 6),
-        6,
-    ),
-    EditCase::new(
-        "a full stop comes to a line's start",
-        (400, 0),
-        &[(25, K)],
-        (15, 0, &[(1, FULL_STOP)]),
-        (2, 6),
-        6,
-    ),
-    EditCase::new("a deletion brings one there", (400, 0), STOP_IN_LINE_1, (5, 1, &[]), (0, 2), 3),
-    EditCase::new("with an indent", (400, 80), &[(25, K)], (10, 0, &[(3, K)]), (1, 6), 6),
-];
-
-impl EditCase {
-    const fn new(
-        name: &'static str,
-        setting: (u32, u32),
-        old: Text,
-        (place, deleted, inserted): (u32, u32, Text),
-        redone: (u32, u32),
-        lines: u32,
-    ) -> EditCase {
-        EditCase { name, setting, old, place, deleted, inserted, redone, lines }
-    }
-
-    /// The words of the records that the slot holds at first.
-    pub fn old(&self) -> Vec<u32> {
-        words(self.old)
-    }
-
-    /// The words that are inserted.
-    pub fn inserted(&self) -> Vec<u32> {
-        words(self.inserted)
-    }
-
-    /// What the edit answers.
-    pub fn expected(&self) -> EditAnswer {
-        let (f, r) = self.redone;
-        EditAnswer { number: 0, place: self.lines, redone: r - f }
-    }
-}
-
 fn words(text: Text) -> Vec<u32> {
     text.iter().flat_map(|(count, record)| record.repeat(*count)).collect()
 }
 
-/// What the edit answers that inserts these records into a fresh slot with this clinic, measure and indent, and every
-/// word of the slot after it, where these are its lines. The layout is written out here, apart from the program's.
+/// What the edit answers that inserts these records into a slot just taken with this clinic, measure and indent, and
+/// every word of the slot after it, where these are its lines. The layout is written out here, apart from the
+/// program's.
 fn composed(head: &[u32; 3], records: &[Words], lines: &[Line]) -> (EditAnswer, Vec<u32>) {
     // Where there were no lines, all are composed anew.
     let answer = EditAnswer::from(Ok(Edited { lines: lines.len(), redone: lines.len() }));
@@ -265,10 +179,11 @@ fn composed(head: &[u32; 3], records: &[Words], lines: &[Line]) -> (EditAnswer, 
     (answer, slot)
 }
 
-/// A slot as set-up leaves it, with this clinic, measure and indent.
+/// A slot just taken, with this clinic, measure and indent.
 fn fresh(head: &[u32; 3]) -> Vec<u32> {
     let mut slot = vec![0; 2_824];
     slot[..3].copy_from_slice(head);
+    slot[5] = 1;
     slot
 }
 
@@ -291,7 +206,7 @@ impl Case {
         Case { name, records, measure, lines: Err(refusal) }
     }
 
-    /// What the edit answers that inserts the records into a fresh slot of this clinic, and every
+    /// What the edit answers that inserts the records into a slot that this clinic just took, and every
     /// word of the slot after it.
     pub fn expected(&self, clinic: u32) -> (EditAnswer, Vec<u32>) {
         let head = [clinic, self.measure, 0];

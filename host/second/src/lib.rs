@@ -16,6 +16,7 @@
 //! | [`compose`] | the lines and places of a whole paragraph |
 //! | [`redone`] | how many lines an edit composes anew: document 02, request 03 |
 //! | [`sheet`] | "The sheet", its layout and its calls |
+//! | [`pool`] | taking a slot and giving one back: document 02, request 07 |
 //! | [`leaflet`] | which texts are leaflets, and their records: document 02, request 05 |
 //! | [`import`](mod@import) | a leaflet's records in place of a slot's: document 02, request 05 |
 //! | [`book`] | "The book of demand 3" |
@@ -38,6 +39,7 @@ pub mod import;
 pub mod kept;
 pub mod leaflet;
 pub mod lists;
+pub mod pool;
 pub mod records;
 pub mod redone;
 pub mod sheet;
@@ -47,5 +49,6 @@ pub mod units;
 pub use answer::{Answer, EditAnswer, ImportAnswer, RubyPlace};
 pub use import::{import, Import};
 pub use lists::{class_of, in_list};
+pub use pool::{give_back, take};
 pub use sheet::{edit, read, read_number, set_up, slot_words, Edit};
 pub use units::ruby_place;

@@ -28,20 +28,29 @@ const LINES_AT: usize = PLACES_AT + MAX_RECORDS * PLACE_WORDS;
 /// The words of a slot.
 pub const SLOT_WORDS: usize = LINES_AT + MAX_LINES * LINE_WORDS;
 
-type Slot = [u32; SLOT_WORDS];
+/// Where in a slot the in-use word is (document 02, request 07).
+pub const IN_USE_AT: usize = 5;
 
-/// What a slot's head says; the other three words of the head are zeros.
-struct Head {
-    clinic: u32,
-    setting: Setting,
+pub(crate) type Slot = [u32; SLOT_WORDS];
+
+/// What a slot's head says; the other two words of the head are zeros.
+pub(crate) struct Head {
+    pub clinic: u32,
+    pub setting: Setting,
     record_count: u32,
     line_count: u32,
+    pub in_use: u32,
 }
 
 impl Head {
-    fn of(slot: &Slot) -> Head {
-        let &[clinic, measure, indent, record_count, line_count, ..] = slot;
-        Head { clinic, setting: Setting { measure, indent }, record_count, line_count }
+    pub fn of(slot: &Slot) -> Head {
+        let &[clinic, measure, indent, record_count, line_count, in_use, ..] = slot;
+        Head { clinic, setting: Setting { measure, indent }, record_count, line_count, in_use }
+    }
+
+    /// Whether the in-use word is one that no call writes, which counts under 4.
+    fn is_use_damaged(&self) -> bool {
+        self.in_use > 1
     }
 }
 
@@ -101,12 +110,13 @@ pub fn read(sheet: &[u32], caller: u32, slot: u32) -> Range<usize> {
     try_read(sheet, caller, slot).unwrap_or(0..0)
 }
 
-/// The words of a slot that holds these records, composed from them alone. It is refused as the
-/// edit of a fresh slot is that inserts them all: with 8, 12, 9 or 10, or with 4, 6 or 7 where no such
+/// The words of a slot in use that holds these records, composed from them alone. It is refused as the
+/// edit is of a slot just taken that inserts them all: with 8, 12, 9 or 10, or with 4, 6 or 7 where no such
 /// edit or slot can be.
 pub fn slot_words(clinic: u32, measure: u32, indent: u32, records: &[u32]) -> Result<Vec<u32>, EditAnswer> {
     let setting = Setting { measure, indent };
     let mut slot = fresh_slot(clinic, setting);
+    slot[IN_USE_AT] = 1;
     if !setting.in_limits() {
         return Err(Refusal::Stored.into());
     }
@@ -154,19 +164,37 @@ pub fn check_caller(caller: u32, clinic: u32) -> Result<(), Refusal> {
     Ok(())
 }
 
+/// Answer 14, where this in-use word says that the slot is not in use.
+pub fn check_in_use(in_use: u32) -> Result<(), Refusal> {
+    match in_use {
+        0 => Err(Refusal::NotInUse),
+        _ => Ok(()),
+    }
+}
+
 /// The line words of a composition.
 pub fn line_words(composition: &Composition) -> impl Iterator<Item = [u32; LINE_WORDS]> + '_ {
     let lines = composition.lines.iter();
     lines.map(|line| [line.first as u32, line.end_x, line.kind as u32])
 }
 
+/// What edit, read and giving back all ask before 4: the index and the head of a slot that is the caller's and in use.
+/// Each step gives the answer beside it.
+pub(crate) fn slot_in_use(sheet: &[u32], caller: u32, slot: u32) -> Result<(usize, Head), Refusal> {
+    slot_count(sheet.len())?; // 1
+    let number = slot as usize;
+    let (slots, _) = sheet.as_chunks::<SLOT_WORDS>();
+    let head = Head::of(slots.get(number).ok_or(Refusal::Slot)?); // 2
+    check_caller(caller, head.clinic)?; // 3
+    check_in_use(head.in_use)?; // 14
+    Ok((number, head))
+}
+
 /// The table in its order: each step gives the answers beside it.
 fn try_edit(sheet: &mut [u32], edit: Edit) -> Result<Edited, Refusal> {
-    slot_count(sheet.len())?; // 1
+    let (number, head) = slot_in_use(sheet, edit.caller, edit.slot)?; // 1, 2, 3 and 14
     let (slots, _) = sheet.as_chunks_mut::<SLOT_WORDS>();
-    let slot = slots.get_mut(edit.slot as usize).ok_or(Refusal::Slot)?; // 2
-    let head = Head::of(slot);
-    check_caller(edit.caller, head.clinic)?; // 3
+    let slot = &mut slots[number];
     let (stored, old_lines) = stored_text(slot, &head).ok_or(Refusal::Stored)?; // 4
     let records = spliced(&stored, edit.place, edit.deleted, edit.inserted)?; // 5 to 8 and 12
     let composition = compose(&records, head.setting)?; // 9 and 10
@@ -181,13 +209,9 @@ pub fn edited(old_lines: &Lines, composition: &Composition, edit: &Edit) -> Edit
 }
 
 fn try_read(sheet: &[u32], caller: u32, slot: u32) -> Result<Range<usize>, Refusal> {
-    slot_count(sheet.len())?;
-    let number = slot as usize;
-    let (slots, _) = sheet.as_chunks::<SLOT_WORDS>();
-    let head = Head::of(slots.get(number).ok_or(Refusal::Slot)?);
-    check_caller(caller, head.clinic)?;
+    let (number, head) = slot_in_use(sheet, caller, slot)?;
     let count = head.line_count as usize;
-    if count > MAX_LINES {
+    if count > MAX_LINES || head.is_use_damaged() {
         return Err(Refusal::Stored);
     }
     let start = number * SLOT_WORDS + LINES_AT;
@@ -196,8 +220,8 @@ fn try_read(sheet: &[u32], caller: u32, slot: u32) -> Result<Range<usize>, Refus
 
 /// The records that a slot holds with the lines that the rules give them, unless the slot is damaged
 /// (answer 4). What lines are stored does not matter.
-fn stored_text(slot: &Slot, head: &Head) -> Option<(Vec<Record>, Lines)> {
-    if !head.setting.in_limits() {
+pub(crate) fn stored_text(slot: &Slot, head: &Head) -> Option<(Vec<Record>, Lines)> {
+    if !head.setting.in_limits() || head.is_use_damaged() {
         return None;
     }
     let (words, _) = slot[RECORDS_AT..PLACES_AT].as_chunks::<RECORD_WORDS>();
@@ -210,16 +234,17 @@ fn stored_text(slot: &Slot, head: &Head) -> Option<(Vec<Record>, Lines)> {
     Some((records, lines))
 }
 
-/// A slot as set-up leaves it.
-fn fresh_slot(clinic: u32, setting: Setting) -> Slot {
+/// A slot as set-up and giving back leave it.
+pub(crate) fn fresh_slot(clinic: u32, setting: Setting) -> Slot {
     let mut slot = [0; SLOT_WORDS];
     [slot[0], slot[1], slot[2]] = [clinic, setting.measure, setting.indent];
     slot
 }
 
-/// Writes every word of a slot but its clinic, measure and indent.
+/// Writes every word of a slot but its clinic, measure, indent and in-use word.
 fn write(slot: &mut Slot, records: &[Record], composition: &Composition) {
-    slot[3..].fill(0);
+    slot[3..IN_USE_AT].fill(0);
+    slot[IN_USE_AT + 1..].fill(0);
     slot[3] = records.len() as u32;
     slot[4] = composition.lines.len() as u32;
 

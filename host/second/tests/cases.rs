@@ -25,7 +25,7 @@ fn c3_whole() {
     assert_eq!(edit(&mut sheet, own(0, 0, &inserted)), (0, 2));
 
     let mut expected = vec![0; 2_824];
-    expected[..8].copy_from_slice(&[CLINIC, 440, 0, 6, 2, 0, 0, 0]);
+    expected[..8].copy_from_slice(&[CLINIC, 440, 0, 6, 2, 1, 0, 0]);
     expected[8..44].copy_from_slice(&inserted);
     expected[1_544..1_556].copy_from_slice(&[0, 0, 90, 0, 180, 0, 270, 0, 360, 0, 0, 1]);
     expected[2_056..2_062].copy_from_slice(&[0, 440, 1, 5, 80, 3]);

@@ -15,8 +15,8 @@ const EDGES: [u32; 16] =
 #[test]
 fn junk_sheets() {
     println!("seeds {SEEDS:?}");
-    // Accepted edits, reads, set-ups, slot words and ruby places.
-    let mut accepted = [0; 5];
+    // Accepted edits, reads, takings, givings back, set-ups, slot words and ruby places.
+    let mut accepted = [0; 7];
     for seed in SEEDS {
         let mut random = Random::new(seed);
         let mut sheet = junk_sheet(&mut random);
@@ -24,6 +24,8 @@ fn junk_sheets() {
         let outcomes = [
             edits(&mut random, &mut sheet, caller, slot),
             reads(&sheet, caller, slot),
+            takes(&mut random, &mut sheet, caller),
+            gives_back(&mut sheet, caller, slot),
             sets_up(&mut random, &mut sheet),
             gives_slot_words(&mut random),
             places_ruby(&mut random),
@@ -31,7 +33,7 @@ fn junk_sheets() {
         accepted.iter_mut().zip(outcomes).for_each(|(sum, outcome)| *sum += u32::from(outcome));
     }
     println!("{accepted:?} accepted");
-    assert!(accepted[..4].iter().all(|&count| count > 300) && accepted[4] > 20);
+    assert!(accepted[..6].iter().all(|&count| count > 300) && accepted[6] > 20);
 }
 
 /// A sound sheet of one slot with a few words spoiled.
@@ -78,8 +80,42 @@ fn reads(sheet: &[u32], caller: u32, slot: u32) -> bool {
     let part = second::read(sheet, caller, slot);
     assert!(part.end <= sheet.len());
     let number = second::read_number(sheet, caller, slot);
-    assert!(number <= 4 && (number == 0 || part == (0..0)));
+    assert!(matches!(number, 0..=4 | 14) && (number == 0 || part == (0..0)));
     number == 0
+}
+
+/// Whether a taking is accepted, for which the slot is often made free. It then changes the in-use word alone.
+fn takes(random: &mut Random, sheet: &mut [u32], caller: u32) -> bool {
+    if random.once_in(2) {
+        sheet[5] = 0;
+    }
+    let mut expected = sheet.to_vec();
+    let answer = second::take(sheet, caller);
+    let number = match (caller, expected[5]) {
+        (0, _) => 3,
+        (_, 0) => 0,
+        _ => 13,
+    };
+    if number == 0 {
+        expected[5] = 1;
+    }
+    assert_eq!((answer.number, answer.place), (number, 0));
+    assert_eq!(sheet, expected);
+    number == 0
+}
+
+/// Whether a giving back is accepted. An edit is then accepted too, and not otherwise.
+fn gives_back(sheet: &mut [u32], caller: u32, slot: u32) -> bool {
+    let mut expected = sheet.to_vec();
+    let edit = Edit { caller, slot, place: 0, deleted: 0, inserted: &[] };
+    let edited = second::edit(&mut sheet.to_vec(), edit);
+    let answer = second::give_back(sheet, caller, slot);
+    assert_eq!((answer.number, answer.place), (edited.number, 0));
+    if answer.number == 0 {
+        expected[3..].fill(0);
+    }
+    assert_eq!(sheet, expected);
+    answer.number == 0
 }
 
 /// Whether a set-up is accepted. Its lists are mostly one long and mostly within limits.

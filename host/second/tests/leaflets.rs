@@ -106,6 +106,12 @@ fn edits_refusals_stand() {
     assert_eq!(refused(&mut sheet, own_import(ruby(1, 65).as_bytes())), (8, 0));
     assert_eq!(refused(&mut sheet, own_import(ruby(17, 1).as_bytes())), (9, 16));
     assert_eq!(refused(&mut sheet, own_import(ruby(17, 65).as_bytes())), (8, 0));
+    for (in_use, number) in [(0, 14), (2, 4), (u32::MAX, 4)] {
+        let mut other = sheet.clone();
+        other[5] = in_use;
+        assert_eq!(refused(&mut other, a), (number, 0));
+        assert_eq!(refused(&mut other, own_import(b"<")), (17, 0));
+    }
     sheet[3] = 257;
     assert_eq!(refused(&mut sheet, a), (4, 0));
     sheet[3] = u32::MAX;
@@ -135,6 +141,9 @@ fn the_book_imports_likewise() {
         let lists = [[1, 2], [800, 400], [0, 80]];
         set_up(&mut sheet, &lists[0], &lists[1], &lists[2]);
         book.set_up(sheet.len(), &lists[0], &lists[1], &lists[2]);
+        for clinic in lists[0] {
+            assert_eq!(second::take(&mut sheet, clinic), book.take(2 * SLOT_WORDS, clinic));
+        }
         for _ in 0..60 {
             let slot = random.below(2);
             let caller = if random.once_in(10) { 3 } else { 1 + slot };

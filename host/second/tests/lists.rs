@@ -223,6 +223,7 @@ fn number_4_covers_12() {
 fn the_book_refuses_with_12_too() {
     let mut book = Book::new();
     assert_eq!(book.set_up(SLOT_WORDS, &[CLINIC], &[800], &[0]).number, 0);
+    assert_eq!(book.take(SLOT_WORDS, CLINIC).number, 0);
     let text = flat(&[k(); 3]);
     assert_eq!(book.edit(SLOT_WORDS, own(0, 0, &text)).number, 0);
     let before = book.encode();

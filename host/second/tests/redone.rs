@@ -56,6 +56,7 @@ fn every_case_by_hand() {
 
         let mut book = Book::new();
         book.set_up(SLOT_WORDS, &slot[..1], &slot[1..2], &slot[2..3]);
+        book.take(SLOT_WORDS, slot[0]);
         book.edit(SLOT_WORDS, own(0, 0, &case.old()));
         assert_eq!(book.edit(SLOT_WORDS, edit), case.expected(), "{}", case.name);
         assert_eq!(second::edit(&mut slot.clone(), edit), case.expected(), "{}", case.name);

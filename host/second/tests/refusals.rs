@@ -1,9 +1,9 @@
-//! Every refusal but 8, 12 and 9 with its place, and the order in which they are checked (document 01, "Refusal
+//! Every refusal but 8, 12, 9 and 13 with its place, and the order in which they are checked (document 01, "Refusal
 //! numbers, in the order they are checked").
 
 mod common;
 
-use common::{compose, edit, flat, grouped, k, one_slot, own, plain, refused, CLINIC, COMMA_AS_19};
+use common::{compose, edit, flat, grouped, k, one_slot, own, plain, refused, take, CLINIC, COMMA_AS_19};
 use second::{read, read_number, set_up, slot_words, Answer, Edit, EditAnswer};
 
 const SLOT: usize = 2_824;
@@ -80,12 +80,15 @@ fn each_number_comes_before_the_next() {
     assert_eq!(refused(&mut sheet, every_fault), (1, 0));
     sheet.pop();
     assert_eq!(set_up(&mut sheet, &[CLINIC, 9], &[800, 800], &[0, 0]), answer(0, 2));
+    assert_eq!(take(&mut sheet, CLINIC), (0, 0));
     assert_eq!(edit(&mut sheet, own(0, 0, &flat(&[k(); 2]))), (0, 1));
     let sound = sheet.clone();
-    sheet[1] = 0;
+    (sheet[1], sheet[5]) = (0, 0);
     assert_eq!(refused(&mut sheet, every_fault), (2, 0));
     assert_eq!(refused(&mut sheet, Edit { slot: 0, ..every_fault }), (3, 0));
     assert_eq!(refused(&mut sheet, Edit { caller: 9, slot: 0, ..every_fault }), (3, 0));
+    assert_eq!(refused(&mut sheet, own(9, BIG, &long)), (14, 0));
+    sheet[5] = 1;
     assert_eq!(refused(&mut sheet, own(9, BIG, &long)), (4, 0));
     sheet = sound;
     assert_eq!(refused(&mut sheet, own(9, BIG, &long)), (5, 2));
@@ -141,7 +144,7 @@ fn number_4() {
     let mut sound = one_slot(800, 100);
     let text = [k(), grouped(80, 1, 2), grouped(80, 1, 2)];
     assert_eq!(edit(&mut sound, own(0, 0, &flat(&text))), (0, 1));
-    // Measure, indent, count, a record's own rules, its class's list, a group rule, a wide run.
+    // Measure, indent, count, in-use word, a record's own rules, its class's list, a group rule, a wide run.
     let damages = [
         (1, 7),
         (1, 1_000_001),
@@ -149,6 +152,8 @@ fn number_4() {
         (3, 257),
         (3, BIG),
         (3, 4),
+        (5, 2),
+        (5, BIG),
         (9, 17),
         (8, u32::from('、')),
         (9, 15),
@@ -163,7 +168,7 @@ fn number_4() {
         assert_eq!(refused(&mut sheet, Edit { caller: 8, ..own(0, 3, &[]) }), (3, 0));
     }
     // Past the count, in the line count, in the spare words, places and lines, nothing is judged.
-    for (at, word) in [(4, BIG), (5, 1), (7, BIG), (26, BIG), (1_544, BIG), (2_056, BIG)] {
+    for (at, word) in [(4, BIG), (6, 1), (7, BIG), (26, BIG), (1_544, BIG), (2_056, BIG)] {
         let mut sheet = sound.clone();
         sheet[at] = word;
         assert_eq!(edit(&mut sheet, own(0, 0, &[])), (0, 1), "word {at} = {word}");
@@ -172,18 +177,22 @@ fn number_4() {
 }
 
 #[test]
-fn a_read_judges_the_line_count_only() {
+fn a_read_judges_the_line_count_and_the_in_use_word_only() {
     let mut sheet = one_slot(800, 0);
     assert_eq!((read_number(&sheet, CLINIC, 0), read(&sheet, CLINIC, 0).len()), (0, 0));
     sheet[1..4].fill(BIG);
     sheet[4] = 256;
     assert_eq!(read_number(&sheet, CLINIC, 0), 0);
     assert_eq!(read(&sheet, CLINIC, 0), 2_056..2_824);
-    for count in [257, BIG] {
-        sheet[4] = count;
-        assert_eq!(read_number(&sheet, CLINIC, 0), 4);
-        assert_eq!(read(&sheet, CLINIC, 0), 0..0);
-        assert_eq!(read_number(&sheet, 8, 0), 3);
+    for (at, word) in [(4, 257), (4, BIG), (5, 2), (5, BIG)] {
+        let mut damaged = sheet.clone();
+        damaged[at] = word;
+        assert_eq!(read_number(&damaged, CLINIC, 0), 4);
+        assert_eq!(read(&damaged, CLINIC, 0), 0..0);
+        assert_eq!(read_number(&damaged, 8, 0), 3);
+        damaged[5] = 0;
+        assert_eq!(read_number(&damaged, CLINIC, 0), 14);
+        assert_eq!(read(&damaged, CLINIC, 0), 0..0);
     }
 }
 
@@ -225,7 +234,7 @@ fn number_10() {
 }
 
 #[test]
-fn slot_words_answers_as_the_edit_of_a_fresh_slot() {
+fn slot_words_answers_as_the_edit_of_a_slot_just_taken() {
     let refusal = |number, place| EditAnswer { number, place, redone: 0 };
     assert_eq!(slot_words(1, 7, 0, &[]), Err(refusal(4, 0)));
     assert_eq!(slot_words(1, 80, 80, &[]), Err(refusal(4, 0)));
@@ -236,5 +245,5 @@ fn slot_words_answers_as_the_edit_of_a_fresh_slot() {
     assert_eq!(slot_words(1, 80, 0, &flat(&[grouped(8, 1, 1); 17])), Err(refusal(9, 16)));
     assert_eq!(slot_words(1, 79, 0, &flat(&[k()])), Err(refusal(10, 0)));
     let fresh = slot_words(1, 80, 0, &[]);
-    assert_eq!(fresh.map(|words| (words.len(), words[..3].to_vec())), Ok((SLOT, vec![1, 80, 0])));
+    assert_eq!(fresh.map(|words| (words.len(), words[..6].to_vec())), Ok((SLOT, vec![1, 80, 0, 0, 0, 1])));
 }

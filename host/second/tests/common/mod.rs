@@ -44,12 +44,19 @@ pub fn flat(records: &[Words]) -> Vec<u32> {
     records.concat()
 }
 
-/// A sheet of one slot, set up for `CLINIC`.
+/// A sheet of one slot, set up for `CLINIC` and taken.
 pub fn one_slot(measure: u32, indent: u32) -> Vec<u32> {
     let mut sheet = vec![0; SLOT_WORDS];
     let answer = second::set_up(&mut sheet, &[CLINIC], &[measure], &[indent]);
     assert_eq!((answer.number, answer.place), (0, 1));
+    assert_eq!(take(&mut sheet, CLINIC), (0, 0));
     sheet
+}
+
+/// The answer of a take as number and place.
+pub fn take(sheet: &mut [u32], caller: u32) -> (u32, u32) {
+    let answer = second::take(sheet, caller);
+    (answer.number, answer.place)
 }
 
 /// The edit of slot 0 by `CLINIC`.
