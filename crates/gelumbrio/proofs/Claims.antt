@@ -4,17 +4,26 @@ use mathlib.Core.Path.{_≡_, refl}
 use Prim.Native.Nat.{ℕ}
 use mathlib.Core.List.{List, map}
 use lib.ListN.{length, getD}
+use denote.Ref.{now}
+use Rattle.rules.specs.Sheet.{clinicOf, slotAt}
 use Rattle.sheet.specs.Book.{SlotCall, reads, call-on, numberOf}
-use Rattle.sheet.specs.Meanings.{Outside, AlikeFor, LeftAlike}
+use Rattle.sheet.specs.Meanings.{Outside, AlikeFor, LeftAlike, By}
+use Rattle.sheet.specs.FreeSlots.{OnlyTaken}
 use Rattle.sheet.specs.declared.Clinic.{Clinic}
 use Rattle.sheet.specs.declared.SlotNumber.{SlotNumber}
-use Rattle.sheet.proofs.Runs.{SetUpRun, EditRun, ImportRun, PartRun, NumberRun, call, before, after, reply, Chained}
+use Rattle.sheet.proofs.Runs.{SetUpRun, TakeRun, GiveBackRun, EditRun, ImportRun, PartRun, NumberRun}
+use Rattle.sheet.proofs.Runs.{takeReply, call, before, after, reply, EitherOrder, Chained}
 use Rattle.sheet.proofs.Booked.{Begun, AsBooked}
 use Rattle.sheet.proofs.Claims as sheet
-use Rattle.gelumbrio.proofs.Exports.{SetUpExport, EditExport, ImportExport, PartExport, NumberExport}
+use Rattle.gelumbrio.proofs.Exports.{SetUpExport, TakeExport, GiveBackExport, EditExport, ImportExport}
+use Rattle.gelumbrio.proofs.Exports.{PartExport, NumberExport}
 use Rattle.gelumbrio.proofs.Exports.{Export, handed}
 use Rattle.gelumbrio.proofs.gelumbrio_set_up.Statement as set-up-contract
 use Rattle.gelumbrio.proofs.gelumbrio_set_up.Met as set-up-met
+use Rattle.gelumbrio.proofs.gelumbrio_take.Statement as take-contract
+use Rattle.gelumbrio.proofs.gelumbrio_take.Met as take-met
+use Rattle.gelumbrio.proofs.gelumbrio_give_back.Statement as give-back-contract
+use Rattle.gelumbrio.proofs.gelumbrio_give_back.Met as give-back-met
 use Rattle.gelumbrio.proofs.gelumbrio_edit.Statement as edit-contract
 use Rattle.gelumbrio.proofs.gelumbrio_edit.Met as edit-met
 use Rattle.gelumbrio.proofs.gelumbrio_import.Statement as import-contract
@@ -35,6 +44,12 @@ use Rattle.gelumbrio.proofs.gelumbrio_class_of.Met as class-of-met
 -- the exports meet their contracts, each for any words, numbers and lengths
 pub set-up-meets : {M : Type 1} → set-up-contract.statement M
 set-up-meets = set-up-met.met
+
+pub take-meets : {M : Type 1} → take-contract.statement M
+take-meets = take-met.met
+
+pub give-back-meets : {M : Type 1} → give-back-contract.statement M
+give-back-meets = give-back-met.met
 
 pub edit-meets : {M : Type 1} → edit-contract.statement M
 edit-meets = edit-met.met
@@ -60,10 +75,11 @@ class-of-meets = class-of-met.met
 -- and these are the statements of the calls that they hand on: a run of an export is a run of the call, so that all
 -- that crate `sheet` claims of runs holds of it
 pub same-runs :
-    (_≡_ {A = Type 0} SetUpExport SetUpRun) × (_≡_ {A = Type 0} EditExport EditRun)
+    (_≡_ {A = Type 0} SetUpExport SetUpRun) × (_≡_ {A = Type 0} TakeExport TakeRun)
+    × (_≡_ {A = Type 0} GiveBackExport GiveBackRun) × (_≡_ {A = Type 0} EditExport EditRun)
     × (_≡_ {A = Type 0} ImportExport ImportRun) × (_≡_ {A = Type 0} PartExport PartRun)
     × (_≡_ {A = Type 0} NumberExport NumberRun)
-same-runs = (refl, refl, refl, refl, refl)
+same-runs = (refl, refl, refl, refl, refl, refl, refl)
 
 -- every refusal leaves the whole sheet unchanged, and no call changes its length
 pub refusals-change-nothing : (e : Export) → let r = handed e in (numberOf (reply r) ≡ 0 → ⊥) → after r ≡ before r
@@ -96,3 +112,25 @@ pub two-sheets : (e f : Export) →
     call r ≡ call q → AlikeFor (call r) (before r) (before q) →
     (reply r ≡ reply q) × LeftAlike (call r) (reply r) (before r) (after r) (after q)
 two-sheets e f = sheet.two-sheets (handed e) (handed f)
+
+-- a take changes the granted slot's in-use word alone
+pub take-reach : (u : TakeExport) → takeReply u .number ≡ 0 →
+    OnlyTaken (now (u .args .0)) (now (u .exit .0)) (takeReply u .place)
+take-reach u = sheet.take-reach u
+
+-- a clinic's call changes no word of a slot that is not its own
+pub others-kept : (e : Export) (c : Clinic) →
+    let r = handed e in
+    By c (call r) → (k : ℕ) → (c .0 ≡ clinicOf (slotAt (before r) k) → ⊥) → slotAt (after r) k ≡ slotAt (before r) k
+others-kept e = sheet.others-kept (handed e)
+
+-- "No clinic can use up another's slots": calls of two clinics in either order are answered the same, and leave the
+-- same sheet
+pub either-order : (c d : Clinic) → (c .0 ≡ d .0 → ⊥) → (e f g h : Export) →
+    let r = handed e in
+    let q = handed f in
+    let p = handed g in
+    let t = handed h in
+    By c (call r) → By d (call q) → EitherOrder r q p t →
+    (reply t ≡ reply r) × (reply p ≡ reply q) × (after t ≡ after q)
+either-order c d other e f g h = sheet.either-order c d other (handed e) (handed f) (handed g) (handed h)

@@ -12,6 +12,7 @@ ghost use mathlib.Core.Bool.{cond};
 ghost use Rattle.lists.specs.Lists.{inList, classOf};
 ghost use Rattle.rules.specs.Groups.{rubyPlace};
 ghost use Rattle.rules.specs.Refusals.{says, editSays, setUp, edit, readNumber, readPart};
+ghost use Rattle.rules.specs.Pool.{taking, givingBack};
 ghost use Rattle.sheet.specs.Import.{import};
 
 #[no_mangle]
@@ -25,6 +26,21 @@ pub extern "C" fn gelumbrio_set_up(
         setUp (now (sheet .entry)) (now (clinics .entry)) (now (measures .entry)) (now (indents .entry)) ⌝ }
 {
     sheet::set_up(sheet, clinics, measures, indents)
+}
+
+#[no_mangle]
+pub extern "C" fn gelumbrio_take(sheet: &mut [u32], caller: Clinic) -> Answer
+    ensures { λ r. ⌜ (says (r .number) (r .place), now (sheet .exit)) ≡ taking (now (sheet .entry)) (caller .0) ⌝ }
+{
+    sheet::take(sheet, caller)
+}
+
+#[no_mangle]
+pub extern "C" fn gelumbrio_give_back(sheet: &mut [u32], caller: Clinic, slot: SlotNumber) -> Answer
+    ensures { λ r. ⌜ (says (r .number) (r .place), now (sheet .exit)) ≡
+        givingBack (now (sheet .entry)) (caller .0) (slot .0) ⌝ }
+{
+    sheet::give_back(sheet, caller, slot)
 }
 
 #[no_mangle]

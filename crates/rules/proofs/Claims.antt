@@ -19,13 +19,16 @@ use Rattle.rules.specs.Gaps.{flexibility, Gap, gapBy}
 use Rattle.rules.specs.Breaks.{bound, width, runs, noBreaking, breaking}
 use Rattle.rules.specs.Adjustment.{plus, amountsOf, totals, natural, Line, lineOf, compose}
 use Rattle.rules.specs.Redone.{editLine, resumes, resumed, report}
+use Rattle.rules.specs.Sheet.{Setting}
 use Rattle.rules.specs.Refusals.{judged, splice}
+use Rattle.rules.specs.Pool.{ownAmong, lowestFree}
 use Rattle.rules.specs.Meanings.{All, lastOf, Maximal, Boundary, OneUnit, RubyPlaced, Choice, Fits, Longest}
 use Rattle.rules.specs.Meanings.{FirstWide, GapAt, WithinLimits, FirstStageFull, Apart, FirstLacking, Listed}
 use Rattle.rules.specs.Meanings.{NeverOpens, startsWith}
 use Rattle.rules.specs.Percent.{digitAndPostfix}
 use Rattle.rules.specs.Stable.{Holds, FirstThat, Resumes, usedBy, StableEdit}
 use Rattle.rules.specs.SpaceBetween.{offsetOf, advanceOf, SpaceBetween, Centred, Solid}
+use Rattle.rules.specs.LowestFree.{Found}
 use Rattle.rules.specs.Spacing.{named, gapSet, spacingTable, cellIn}
 use Rattle.rules.specs.Packed.{packed, unpacked, Packs, AtMost}
 use Rattle.rules.proofs.Facts.{some-none}
@@ -36,6 +39,7 @@ use Rattle.rules.proofs.Cases.{rows, cases-hold}
 use Rattle.rules.proofs.PercentCases.{percents, percents-hold}
 use Rattle.rules.proofs.RowCases.{group-rows, group-rows-hold}
 use Rattle.rules.proofs.PairCases.{pairs, ruled, wanted, pairs-hold}
+use Rattle.rules.proofs.PoolCases.{takes, answered, wanted-answer, takes-hold, calls, numbered, due, calls-hold}
 use Rattle.rules.proofs.Cuts.{cut-maximal, maximal-only, boundary-exact, units-one}
 use Rattle.rules.proofs.NoBreaking.{breaking-exists, due-exactly, place-of-10}
 use Rattle.rules.proofs.Breaking.{breaking-choice, lines-fit}
@@ -56,6 +60,7 @@ use Rattle.rules.proofs.GroupRows.{base-within, base-between, base-cent
 use Rattle.rules.proofs.GroupRows.{ruby-within, ruby-between, ruby-centred, ruby-solid}
 use Rattle.rules.proofs.RubyPlaces.{accepted-placed}
 use Rattle.rules.proofs.LineOpenings.{comma-barred, no-line-opens}
+use Rattle.rules.proofs.OwnSlots.{lowest}
 use Rattle.rules.proofs.ListedCases.{listings, listings-hold}
 use Rattle.rules.proofs.spacing.spacing_table.Statement as spacing-table-contract
 use Rattle.rules.proofs.spacing.spacing_table.Met as spacing-table-met
@@ -277,6 +282,14 @@ pub lines-stable : (m x : ℕ) (rs : List Rec) (place deleted : ℕ) (ins : List
     (report place deleted (length ins) old new)
 lines-stable m x rs place deleted ins fits = edit-stable m x rs place deleted ins fits
 
+-- Slots taken ------------------------------------------------------------------------------------------------------
+-- request 07, of slots by their settings
+
+-- what a take is granted is the lowest-numbered slot that is the clinic's and free; none, where none is
+pub lowest-free : (settings : ℕ → Setting) (clinic k n : ℕ) →
+    Found settings clinic k n (lowestFree (ownAmong settings clinic k n))
+lowest-free settings clinic k n = lowest settings clinic k n
+
 -- Composed by hand -------------------------------------------------------------------------------------------------
 
 -- C1 to C13
@@ -298,3 +311,10 @@ pairs-by-hand = pairs-hold
 -- request 03: the lines that an edit composes anew
 pub edits-by-hand : edits-right edit-rows ≡ true
 edits-by-hand = edit-cases-hold
+
+-- request 07: takes, and calls on slots in use and not in use
+pub takes-by-hand : map answered takes ≡ map wanted-answer takes
+takes-by-hand = takes-hold
+
+pub calls-by-hand : map numbered calls ≡ map due calls
+calls-by-hand = calls-hold

@@ -9,6 +9,7 @@ pub mod Cases
 pub mod PercentCases
 pub mod RowCases
 pub mod PairCases
+pub mod PoolCases
 pub mod Cuts
 pub mod Widths
 pub mod Breaking
@@ -43,6 +44,7 @@ pub mod Words
 pub mod Lengths
 pub mod SlotWords
 pub mod Zeros
+pub mod OwnSlots
 pub mod Claims
 pub mod Bounds
 pub mod Packed

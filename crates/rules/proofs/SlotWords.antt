@@ -4,15 +4,17 @@ use Prim.Native.Nat.{ℕ, zero, suc, _+_, _-_, _*_, _/_, _≤_, _<_}
 use native.Mathlib.Nat.{add-zero}
 use native.Mathlib.Omega.{arith}
 use mathlib.Core.List.{List, [], _∷_, _++_, append-assoc, append-nil}
-use lib.ListN.{length, getD, take, drop, length-append}
+use lib.ListN.{length, getD, set, take, drop, length-append}
 use lib.Seq.{getD-append-add, getD-take, take-at, drop-at}
 use Rattle.rules.specs.Basics.{cut, zeros, padded}
 use Rattle.rules.specs.Records.{Rec, recAt, records, recordWords}
 use Rattle.rules.specs.Groups.{units}
 use Rattle.rules.specs.Breaks.{runs, breaking}
 use Rattle.rules.specs.Adjustment.{Line, linesOf, compose}
-use Rattle.rules.specs.Sheet.{Setting, placeWords, lineWords, head, slotWords, fresh}
-use Rattle.rules.specs.Sheet.{measureOf, indentOf, settingOf, countOf, lineCountOf, recordsOf}
+use Rattle.rules.specs.Sheet.{Setting, setting, withUse, placeWords, lineWords, head, slotWords, fresh}
+use Rattle.rules.specs.Sheet.{clinicOf, measureOf, indentOf, inUseOf, settingOf, countOf, lineCountOf}
+use Rattle.rules.specs.Sheet.{recordsOf}
+use Rattle.rules.specs.Pool.{emptied}
 use Rattle.rules.specs.Redone.{start}
 use Rattle.rules.specs.Stable.{usedBy, usedOf, AsRuled}
 use Rattle.rules.proofs.Facts.{cons-path}
@@ -92,6 +94,14 @@ module _ (t : Setting) (rs : List Rec) where
   pub slot-indent : indentOf (slotWords t rs) ≡ t .indent
   slot-indent = ap (λ (p : Setting). p .indent) slot-setting
 
+  pub slot-in-use : inUseOf (slotWords t rs) ≡ t .inUse
+  slot-in-use = ap (λ (p : Setting). p .inUse) slot-setting
+
+  -- with another in-use word
+  pub slot-with-use : (w : ℕ) → set (slotWords t rs) 5 w ≡ slotWords (withUse t w) rs
+  unfolding slotWords
+  slot-with-use w = refl
+
   pub slot-count : countOf (slotWords t rs) ≡ length rs
   unfolding slotWords
   slot-count = refl
@@ -170,16 +180,27 @@ module _ (t : Setting) (rs : List Rec) where
         sym (getD-take (3 * length lines) (drop 2056 (slotWords t rs)) (3 * j) 0 (omega arith))
         ∙ ap (λ ws. getD ws (3 * j) 0) slot-lines ∙ omega (arith, line-first 0 lines j h)
 
-five : zeros 5 ≡ 0 ∷ 0 ∷ 0 ∷ 0 ∷ 0 ∷ []
+two-zeros : zeros 2 ≡ 0 ∷ 0 ∷ []
 unfolding zeros
-five = refl
+two-zeros = refl
 
 -- a slot without records is fresh
 pub slot-fresh : (t : Setting) → slotWords t [] ≡ fresh t
 unfolding slotWords compose units cut runs breaking linesOf recordWords placeWords lineWords
 slot-fresh t =
+    let after : List ℕ → List ℕ = λ l. t .clinic ∷ t .measure ∷ t .indent ∷ 0 ∷ 0 ∷ t .inUse ∷ l in
     let z : zeros 1536 ++ zeros 512 ++ zeros 768 ≡ zeros 2816
     = ap (λ l. l ++ zeros 768) (zeros-append 1536 512) ∙ zeros-append 2048 768 in
-    ap (λ l. t .clinic ∷ t .measure ∷ t .indent ∷ 0 ∷ 0 ∷ 0 ∷ 0 ∷ 0 ∷ l) z
-    ∙ ap (λ l. t .clinic ∷ t .measure ∷ t .indent ∷ (l ++ zeros 2816)) (sym five)
-    ∙ ap (λ l. t .clinic ∷ t .measure ∷ t .indent ∷ l) (zeros-append 5 2816)
+    ap (λ l. after (0 ∷ 0 ∷ l)) z
+    ∙ ap (λ l. after (l ++ zeros 2816)) (sym two-zeros)
+    ∙ ap after (zeros-append 2 2816)
+
+three-zeros : zeros 3 ≡ 0 ∷ 0 ∷ 0 ∷ []
+unfolding zeros
+three-zeros = refl
+
+-- and one that is given back is as set-up leaves it
+pub emptied-fresh : (s : List ℕ) → emptied s ≡ fresh (setting (clinicOf s) (measureOf s) (indentOf s))
+emptied-fresh s =
+    let after : List ℕ → List ℕ = λ l. clinicOf s ∷ measureOf s ∷ indentOf s ∷ l in
+    ap after (sym (zeros-append 3 2818)) ∙ ap (λ l. after (l ++ zeros 2818)) three-zeros

@@ -24,7 +24,7 @@ use Rattle.rules.specs.Breaks.{noBreaking}
 use Rattle.rules.specs.Adjustment.{compose}
 use Rattle.rules.specs.Redone.{report}
 use Rattle.rules.specs.Sheet.{Setting, setting, slotWords, fresh, clinicOf, measureOf, indentOf, settingOf}
-use Rattle.rules.specs.Sheet.{countOf, lineCountOf, recordsOf, limitsOk, slotLimitsOk}
+use Rattle.rules.specs.Sheet.{countOf, lineCountOf, inUseOf, recordsOf, limitsOk, slotLimitsOk}
 use Rattle.rules.specs.Sheet.{slotCount, lengthOk, slotAt, withSlot}
 
 pub record Answer : Type 0 where
@@ -70,10 +70,10 @@ judged m x rs =
     (says 0 (length (compose m x (units rs)))))))
 
 -- 4: "the slot's measure or indent is out of limits, its count is over 256, or its stored records fall under 8, 9 or
--- 10"; "Answer 4 covers 12 too"
+-- 10"; "Answer 4 covers 12 too"; "an in-use word above 1 counts under 4"
 unfoldable pub sound : List ℕ → Bool
 sound s =
-    limitsOk (measureOf s) (indentOf s) && leb (countOf s) 256
+    limitsOk (measureOf s) (indentOf s) && leb (countOf s) 256 && leb (inUseOf s) 1
     && eqb (judged (measureOf s) (indentOf s) (recordsOf s) .number) 0
 
 -- "the deleted records go out at the place and the inserted ones come in there"
@@ -104,7 +104,7 @@ slotRows s place deleted inserted =
     ∷ []
 
 -- an edit of slot s by its own clinic: the answer, and the slot's words. "An accepted edit keeps clinic, measure and
--- indent and writes every other word of its slot"
+-- indent and writes every other word of its slot"; of "in use": "an edit keeps it"
 unfoldable pub editSlot : List ℕ → ℕ → ℕ → List ℕ → Outcome EditAnswer
 editSlot s place deleted inserted =
     let rs = edited s place deleted inserted in
@@ -113,20 +113,22 @@ editSlot s place deleted inserted =
       cond (eqb (a .number) 0) (slotWords (settingOf s) rs) s,
     )
 
--- the rows 1 to 3, with which each call on a slot begins; 3 looks at no word of the slot but its clinic
+-- the rows 1 to 3 and 14, with which each call on a slot begins; 3 looks at no word of the slot but its clinic, and 14
+-- at no other but "in use": "on a slot not in use stands after 3 and before 4"
 unfoldable pub callRows : List ℕ → ℕ → ℕ → List (Bool × Answer)
 callRows ws caller k =
     (not (lengthOk (length ws)), says 1 0)
     ∷ (leb (slotCount ws) k, says 2 0)
     ∷ (eqb caller 0 || not (eqb caller (clinicOf (slotAt ws k))), says 3 0)
+    ∷ (eqb (inUseOf (slotAt ws k)) 0, says 14 0)
     ∷ []
 
--- the answer of rows 1 to 3: 0 where none applies
+-- the answer of these rows: 0 where none applies
 unfoldable pub called : List ℕ → ℕ → ℕ → Answer
 called ws caller k = firstOf (callRows ws caller k) (says 0 0)
 
--- a call on slot k: f gives its answer and the slot's words afterwards, where none of the rows 1 to 3 applies; where
--- one does, `refused` gives the answer, and the sheet stays as it is. "It works on the part of the sheet that is the
+-- a call on slot k: f gives its answer and the slot's words afterwards, where none of these rows applies; where one
+-- does, `refused` gives the answer, and the sheet stays as it is. "It works on the part of the sheet that is the
 -- named slot."
 unfoldable pub onSlot : {A : Type 0} → (Answer → A) → List ℕ → ℕ → ℕ → (List ℕ → Outcome A) → Outcome A
 onSlot refused ws caller k f =
@@ -140,9 +142,9 @@ edit ws caller k place deleted inserted = onSlot asEdit ws caller k (λ s. editS
 
 -- the row 4 of a read of slot s
 unfoldable pub readRows : List ℕ → List (Bool × Answer)
-readRows s = (ltb 256 (lineCountOf s), says 4 0) ∷ []
+readRows s = (ltb 256 (lineCountOf s) || ltb 1 (inUseOf s), says 4 0) ∷ []
 
--- read: "0, or 1, 2, 3, then 4 if the stored line count exceeds 256"
+-- read: "0, or 1, 2, 3, then 4 if the stored line count exceeds 256", with 14 after 3, and an in-use word above 1 under 4
 unfoldable pub readNumber : List ℕ → ℕ → ℕ → ℕ
 readNumber ws caller k = firstOf (callRows ws caller k ++ readRows (slotAt ws k)) (says 0 0) .number
 

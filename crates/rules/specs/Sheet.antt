@@ -2,11 +2,12 @@
 --
 --   sheet        P slots of 2,824 words each, P from 1 to 64
 --   slot         head, 256 records, 256 places, 256 lines: 8 + 1,536 + 512 + 768 words
---   head         clinic, measure, indent, record count, line count, three zeros
---   setting      of a slot: clinic, measure and indent
+--   head         clinic, measure, indent, record count, line count, in use, two zeros
+--   in use       0 or 1: whether the slot's clinic has taken it (document 02, request 07)
+--   setting      of a slot: clinic, measure, indent and in use
 --   place        of a record: x, line number
 --   line         first record, end x, kind
---   fresh        as set-up leaves a slot: clinic, measure, indent, all else 0
+--   fresh        a slot with a setting and nothing else: all other words are 0
 --
 -- Assumes nothing.
 use Prim.Native.Nat.{ℕ, suc, _+_, _*_, _/_, _%_}
@@ -34,17 +35,23 @@ unfoldable pub lineWords : ℕ → List Line → List ℕ
 lineWords f [] = []
 lineWords f (l ∷ ls) = f ∷ l .end ∷ l .kind ∷ lineWords (f + l .count) ls
 
--- what set-up gives a slot and an edit keeps
+-- the words of a slot that an edit keeps
 pub record Setting : Type 0 where
   pub clinic : ℕ
   pub measure : ℕ
   pub indent : ℕ
+  pub inUse : ℕ
 
+-- as set-up gives it: "in use", "0 after set-up"
 abbrev pub setting : ℕ → ℕ → ℕ → Setting
-setting clinic m x = record { clinic = clinic; measure = m; indent = x }
+setting clinic m x = record { clinic = clinic; measure = m; indent = x; inUse = 0 }
+
+-- the same clinic, measure and indent with another in-use word
+abbrev pub withUse : Setting → ℕ → Setting
+withUse t w = record { clinic = t .clinic; measure = t .measure; indent = t .indent; inUse = w }
 
 abbrev pub head : Setting → ℕ → ℕ → List ℕ
-head t n lines = t .clinic ∷ t .measure ∷ t .indent ∷ n ∷ lines ∷ 0 ∷ 0 ∷ 0 ∷ []
+head t n lines = t .clinic ∷ t .measure ∷ t .indent ∷ n ∷ lines ∷ t .inUse ∷ 0 ∷ 0 ∷ []
 
 -- the words of a slot of these records and lines: "Words past the counts are zero."
 abbrev pub slotOf : Setting → List Rec → List Line → List ℕ
@@ -57,7 +64,7 @@ unfoldable pub slotWords : Setting → List Rec → List ℕ
 slotWords t rs = slotOf t rs (compose (t .measure) (t .indent) (units rs))
 
 abbrev pub fresh : Setting → List ℕ
-fresh t = t .clinic ∷ t .measure ∷ t .indent ∷ zeros 2821
+fresh t = t .clinic ∷ t .measure ∷ t .indent ∷ 0 ∷ 0 ∷ t .inUse ∷ zeros 2818
 
 -- the head's words, the setting, and the records, of a slot s
 abbrev pub clinicOf : List ℕ → ℕ
@@ -69,8 +76,11 @@ measureOf s = getD s 1 0
 abbrev pub indentOf : List ℕ → ℕ
 indentOf s = getD s 2 0
 
+abbrev pub inUseOf : List ℕ → ℕ
+inUseOf s = getD s 5 0
+
 abbrev pub settingOf : List ℕ → Setting
-settingOf s = setting (clinicOf s) (measureOf s) (indentOf s)
+settingOf s = withUse (setting (clinicOf s) (measureOf s) (indentOf s)) (inUseOf s)
 
 abbrev pub countOf : List ℕ → ℕ
 countOf s = getD s 3 0

@@ -9,32 +9,41 @@ use lib.Dec.{leb, eqb}
 use lib.ListN.{length}
 use borrow.Author.Tests.{eqb-true, eqb-false}
 use Rattle.rules.specs.Basics.{firstOf}
-use Rattle.rules.specs.Sheet.{clinicOf, slotCount, lengthOk, slotAt}
+use Rattle.rules.specs.Sheet.{clinicOf, inUseOf, slotCount, lengthOk, slotAt}
 use Rattle.rules.specs.Refusals.{Answer, says, Outcome, callRows, called, onSlot}
 use Rattle.rules.proofs.Facts.{tested}
 use Rattle.sheet.specs.Meanings.{beyond, Alike}
 use Rattle.sheet.proofs.Tables.{same-number, passed}
-use Rattle.sheet.proofs.Entry.{entered}
+use Rattle.sheet.proofs.Entry.{foreign, not-foreign, entered}
 use Rattle.sheet.proofs.OnSlot.{KeepsLength, on-slot, on-refusing}
 
--- the rows 1 to 3
-abbrev three : Bool → Bool → Bool → Answer
-three a b c = firstOf ((a, says 1 0) ∷ (b, says 2 0) ∷ (c, says 3 0) ∷ []) (says 0 0)
+-- the rows 1 to 3 and 14
+abbrev four : Bool → Bool → Bool → Bool → Answer
+four a b c d = firstOf ((a, says 1 0) ∷ (b, says 2 0) ∷ (c, says 3 0) ∷ (d, says 14 0) ∷ []) (says 0 0)
 
-three-same : (a b c d : Bool) → (a || b ≡ false → c ≡ d) → three a b c ≡ three a b d
-three-same true b c d f = refl
-three-same false true c d f = refl
-three-same false false c d f = ap (three false false) (f refl)
+-- a row is asked where none before it applies
+four-same : (a b c e d f : Bool) → (a || b ≡ false → c ≡ e) → (a || b ≡ false → c ≡ false → d ≡ f) →
+    four a b c d ≡ four a b e f
+four-same true b c e d f p q = refl
+four-same false true c e d f p q = refl
+four-same false false true e d f p q = ap (λ g. four false false g f) (p refl)
+four-same false false false e d f p q =
+    ap (four false false false) (q refl refl) ∙ ap (λ g. four false false g f) (p refl)
 
+-- by the length, the slot's clinic and, where that is the caller, its in-use word
 pub called-alike : (ws vs : List ℕ) (caller k : ℕ) → length ws ≡ length vs →
     (beyond (length ws) k ≡ false → clinicOf (slotAt ws k) ≡ clinicOf (slotAt vs k)) →
+    (beyond (length ws) k ≡ false → (caller ≡ 0 → ⊥) → caller ≡ clinicOf (slotAt ws k) →
+    inUseOf (slotAt ws k) ≡ inUseOf (slotAt vs k)) →
     called ws caller k ≡ called vs caller k
 unfolding called callRows
-called-alike ws vs caller k e f =
-    let foreign : List ℕ → Bool = λ us. eqb caller 0 || not (eqb caller (clinicOf (slotAt us k))) in
-    three-same (not (lengthOk (length ws))) (leb (slotCount ws) k) (foreign ws) (foreign vs)
+called-alike ws vs caller k e f g =
+    let free : List ℕ → Bool = λ us. eqb (inUseOf (slotAt us k)) 0 in
+    four-same (not (lengthOk (length ws))) (leb (slotCount ws) k) (foreign ws caller k) (foreign vs caller k) (free ws)
+    (free vs)
     (λ h. ap (λ c. eqb caller 0 || not (eqb caller c)) (f h))
-    ∙ ap (λ n. three (not (lengthOk n)) (leb (n / 2824) k) (foreign vs)) e
+    (λ h r. let o = not-foreign ws caller k r in ap (λ w. eqb w 0) (g h (o .0) (o .1)))
+    ∙ ap (λ n. four (not (lengthOk n)) (leb (n / 2824) k) (foreign vs caller k) (free vs)) e
 
 -- a call that is entered is not beyond the sheet
 entered-within : (ws : List ℕ) (caller k : ℕ) → called ws caller k .number ≡ 0 → beyond (length ws) k ≡ false
@@ -42,8 +51,10 @@ unfolding called callRows
 entered-within ws caller k z = let p = passed 0 (callRows ws caller k) (says 0 0) refl z .0 in rw (p .0, p .1 .0)
 
 module _ (ws vs : List ℕ) (caller k : ℕ) (a : Alike caller k ws vs) where
-  same-called : called ws caller k ≡ called vs caller k
-  same-called = called-alike ws vs caller k (a .same-length) (a .same-clinic)
+  pub same-called : called ws caller k ≡ called vs caller k
+  same-called =
+      called-alike ws vs caller k (a .same-length) (a .same-clinic)
+      (λ b known own. ap inUseOf (a .same-words b known own))
 
   same-slot : called ws caller k .number ≡ 0 → slotAt ws k ≡ slotAt vs k
   same-slot z =

@@ -13,7 +13,7 @@ use Rattle.rules.specs.Records.{records}
 use Rattle.rules.specs.Groups.{TextUnit, units}
 use Rattle.rules.specs.Adjustment.{compose}
 use Rattle.rules.specs.Sheet.{Setting, lineWords, slotWords, clinicOf, measureOf, indentOf, settingOf, lineCountOf}
-use Rattle.rules.specs.Sheet.{recordsOf, slotAt}
+use Rattle.rules.specs.Sheet.{inUseOf, recordsOf, slotAt}
 use Rattle.rules.specs.Stable.{usedBy, usedOf, ruledLines, AsRuled, StableEdit}
 use Rattle.rules.specs.Refusals.{says, EditAnswer, asEdit, Outcome, linesRedone, edited, editRedone, slotRows, editSlot}
 use Rattle.rules.specs.Refusals.{callRows, called, onSlot, readNumber, readWords}
@@ -24,7 +24,7 @@ use Rattle.rules.proofs.RedoneLines.{edit-stable}
 use Rattle.sheet.specs.Meanings.{Spliced}
 use Rattle.sheet.proofs.Tables.{same-number, lacking, passed}
 use Rattle.sheet.proofs.Reading.{number-0, read-slot}
-use Rattle.rules.proofs.SlotWords.{slot-setting, slot-line-count, slot-lines, slot-used, slot-as-ruled}
+use Rattle.rules.proofs.SlotWords.{slot-setting, slot-in-use, slot-line-count, slot-lines, slot-used, slot-as-ruled}
 use Rattle.sheet.proofs.OnSlot.{on-entering, on-refusing, on-length, on-slot}
 use Rattle.sheet.proofs.Alike.{called-alike}
 use Rattle.sheet.proofs.SlotChanges.{slot-judged, length-edit-slot, slot-accepted, slot-spliced}
@@ -52,7 +52,7 @@ module _ (ws : List ℕ) (caller k place deleted : ℕ) (inserted : List ℕ) wh
   whole : (s : List ℕ) → length s ≡ 2824 → length (here s .1) ≡ 2824
   whole s h = length-edit-slot s place deleted inserted h
 
-  -- an answer that the rows 1 to 3 do not give is the slot's
+  -- an answer that the rows 1 to 3 and 14 do not give is the slot's
   pub record FromSlot (n : ℕ) : Type 0 where
     pub entry : called ws caller k .number ≡ 0
     pub number : here before .0 .number ≡ n
@@ -151,9 +151,12 @@ module _ (ws : List ℕ) (caller k place deleted : ℕ) (inserted : List ℕ) wh
       let s = accepted-words z .1 in
       let clinic : clinicOf (slotAt (out .1) k) ≡ clinicOf before
       = ap clinicOf s ∙ ap (λ (t : Setting). t .clinic) (slot-setting (settingOf before) rs) in
+      let in-use : inUseOf (slotAt (out .1) k) ≡ inUseOf before = ap inUseOf s ∙ slot-in-use (settingOf before) rs in
       let called-again : called (out .1) caller k ≡ called ws caller k
-      = called-alike (out .1) ws caller k (on-length asEdit ws caller k here whole) (λ h. clinic) in
+      = called-alike (out .1) ws caller k (on-length asEdit ws caller k here whole) (λ h. clinic) (λ h l o. in-use) in
       let lines : lineCountOf (slotAt (out .1) k) ≤ 256
       = rw (s, slot-line-count) (omega (arith, composed-few m x rs)) in
-      let n = number-0 (out .1) caller k (same-number called-again ∙ f .entry) lines in
+      let used : inUseOf (slotAt (out .1) k) ≤ 1
+      = rw in-use (slot-judged before place deleted inserted 0 refl (f .number) .used) in
+      let n = number-0 (out .1) caller k (same-number called-again ∙ f .entry) lines used in
       (n, read-slot (out .1) caller k n ∙ rw (s, slot-line-count) (slot-lines (settingOf before) rs few))

@@ -3,10 +3,12 @@
 -- sequence of runs is proofs/Booked.antt. The other words of the claims are defined in specs/Book.antt and
 -- specs/Meanings.antt; the rules in crate `rules`, whose own proofs/Claims.antt has what is proved of them alone; what
 -- a text spells and where it has its fault in crate `leaflet`, likewise. Assumes nothing.
-use mathlib.Core.Path.{_≡_}
+use mathlib.Core.Path.{_≡_, sym, ap}
 use Prim.Native.Nat.{ℕ, _*_, _/_, _<_}
+use mathlib.Core.Bool.{true, false}
 use mathlib.Core.List.{List, []}
 use mathlib.Core.Logic.{_↔_}
+use mathlib.Core.Option.{none}
 use lib.ListN.{length, getD, take, drop}
 use denote.Ref.{now}
 use Rattle.rules.specs.Basics.{Run as RunOf}
@@ -14,35 +16,47 @@ use Rattle.rules.specs.Records.{Rec}
 use Rattle.rules.specs.Groups.{TextUnit, units}
 use Rattle.rules.specs.Breaks.{runs, breaking}
 use Rattle.rules.specs.Adjustment.{Line, compose}
-use Rattle.rules.specs.Sheet.{lineWords, lineCountOf, measureOf, indentOf, recordsOf, slotCount, slotAt}
+use Rattle.rules.specs.Sheet.{lineWords, clinicOf, lineCountOf, measureOf, indentOf, inUseOf, recordsOf, lengthOk}
+use Rattle.rules.specs.Sheet.{slotCount, slotAt}
 use Rattle.rules.specs.Refusals.{Outcome, edited}
+use Rattle.rules.specs.Pool.{emptied}
 use Rattle.rules.specs.Stable.{Used, usedBy, usedOf, ruledLines, AsRuled, StableEdit}
 use Rattle.rules.specs.Meanings.{All, Choice, Fits, Longest, FirstWide, RubyPlaced, FirstLacking, Listed}
 use Rattle.rules.proofs.Claims.{lines-chosen}
 use Rattle.leaflet.specs.Contents.{Piece, Spells, Accepted, reading}
 use Rattle.leaflet.specs.Faults.{Fault}
 use Rattle.leaflet.specs.Imported.{importedRecords}
-use Rattle.sheet.specs.Book.{SlotCall, reads, Call, call-on, Reply, read-reply, numberOf, step}
+use Rattle.sheet.specs.Book.{SlotCall, reads, Call, call-on, Reply, read-reply, numberOf, faultOf, step}
 use Rattle.sheet.specs.Book.{BookSlot, bookStep}
-use Rattle.sheet.specs.Meanings.{Outside, AlikeFor, LeftAlike, NoneBefore12, NoEarlier, Spliced}
+use Rattle.sheet.specs.Meanings.{Outside, AlikeFor, LeftAlike, NoneBefore12, NoEarlier, Spliced, By}
+use Rattle.sheet.specs.FreeSlots.{Free, LowestFree, Takeable, OnlyTaken, Reached, upTo4}
 use Rattle.sheet.specs.declared.Clinic.{Clinic}
 use Rattle.sheet.specs.declared.SlotNumber.{SlotNumber}
 use Rattle.sheet.proofs.Stays.{book-refused}
 use Rattle.sheet.proofs.Runs.{EditRun, caller, slot, place, deleted, inserted, answer, slotBefore, slotAfter}
 use Rattle.sheet.proofs.Runs.{ImportRun, size, text, importAnswer, importAfter, EditOf}
-use Rattle.sheet.proofs.Runs.{Run, call, before, after, reply, Chained, final}
+use Rattle.sheet.proofs.Runs.{TakeRun, taker, takeReply, GiveBackRun, giveReply, givenBefore, givenAfter}
+use Rattle.sheet.proofs.Runs.{Beside}
+use Rattle.sheet.proofs.Runs.{Run, take-run, call, before, after, reply, EitherOrder, Chained, final}
 use Rattle.sheet.proofs.Told.{told}
 use Rattle.sheet.proofs.RunLaws.{run-unchanged, run-length, run-alike, run-frame, read-lines, read-nothing}
-use Rattle.sheet.proofs.RunLaws.{read-kept}
+use Rattle.sheet.proofs.RunLaws.{read-kept, run-foreign, run-14, run-misused}
+use Rattle.sheet.proofs.ClinicRuns.{same-first-reply, same-second-reply, same-after}
 use Rattle.sheet.proofs.EditRuns.{run-splices, run-found-0, run-0, run-10, run-10-place, run-rubies, run-read}
 use Rattle.sheet.proofs.EditRuns.{run-stable, run-as-ruled, run-words-stable, run-none}
 use Rattle.sheet.proofs.EditRuns.{run-12, run-12-place, run-listed}
 use Rattle.sheet.proofs.ImportRuns.{import-17, import-not-17, import-none, import-edit, import-has-edit}
 use Rattle.sheet.proofs.ImportRuns.{import-leaves}
+use Rattle.sheet.proofs.PoolRuns.{run-take-1, run-take-3, run-take-13, run-take-0, run-only-taken}
+use Rattle.sheet.proofs.PoolRuns.{run-take-place, run-emptied, run-as-edit, run-give-place}
 use Rattle.sheet.proofs.Booked.{Begun, AsBooked}
 use Rattle.sheet.proofs.Histories.{as-booked, slots-as-ruled, slots-listed}
 use Rattle.sheet.proofs.setting.set_up.Statement as set-up-contract
 use Rattle.sheet.proofs.setting.set_up.Met as set-up-met
+use Rattle.sheet.proofs.taking.take.Statement as take-contract
+use Rattle.sheet.proofs.taking.take.Met as take-met
+use Rattle.sheet.proofs.taking.give_back.Statement as give-back-contract
+use Rattle.sheet.proofs.taking.give_back.Met as give-back-met
 use Rattle.sheet.proofs.edit.Statement as edit-contract
 use Rattle.sheet.proofs.edit.Met as edit-met
 use Rattle.sheet.proofs.importing.import.Statement as import-contract
@@ -59,6 +73,12 @@ use Rattle.sheet.proofs.read_number.Met as read-number-met
 -- the code of src/ meets the contracts
 pub set-up-meets : {M : Type 1} → set-up-contract.statement M
 set-up-meets = set-up-met.met
+
+pub take-meets : {M : Type 1} → take-contract.statement M
+take-meets = take-met.met
+
+pub give-back-meets : {M : Type 1} → give-back-contract.statement M
+give-back-meets = give-back-met.met
 
 pub edit-meets : {M : Type 1} → edit-contract.statement M
 edit-meets = edit-met.met
@@ -223,6 +243,61 @@ module _ (u : ImportRun) where
     pub import-records : importAnswer u .number ≡ 0 → recordsOf (importAfter u) ≡ importedRecords (size u) (reading ps)
     import-records h = import-leaves u ps s h
 
+-- Request 07: what a take, a giving back and answer 14 are -----------------------------------------------------------
+
+module _ (u : TakeRun) where
+  -- the sheet that the take found
+  abbrev found : List ℕ
+  found = now (u .args .0)
+
+  -- 13 exactly where the caller has no free slot and no answer before it is due
+  pub take-13-exactly : (takeReply u .number ≡ 13)
+      ↔ (Takeable found (taker u .0) × ((k : ℕ) → Free found (taker u .0) k → ⊥))
+  take-13-exactly = run-take-13 u
+
+  -- 0 and slot k exactly where that is the caller's lowest-numbered free slot
+  pub take-0-exactly : (k : ℕ) →
+      ((takeReply u .number ≡ 0) × (takeReply u .place ≡ k))
+      ↔ (Takeable found (taker u .0) × LowestFree found (taker u .0) k)
+  take-0-exactly k = run-take-0 u k
+
+  -- 1 and 3, each exactly where it is due
+  pub take-1-exactly : (takeReply u .number ≡ 1) ↔ (lengthOk (length found) ≡ false)
+  take-1-exactly = run-take-1 u
+
+  pub take-3-exactly : (takeReply u .number ≡ 3) ↔ ((lengthOk (length found) ≡ true) × (taker u .0 ≡ 0))
+  take-3-exactly = run-take-3 u
+
+  -- granted, the in-use word of that slot becomes 1, and no other word changes; a refusal names no place
+  pub take-reach : takeReply u .number ≡ 0 → OnlyTaken found (now (u .exit .0)) (takeReply u .place)
+  take-reach h = run-only-taken u h
+
+  pub refused-take-place : (takeReply u .number ≡ 0 → ⊥) → takeReply u .place ≡ 0
+  refused-take-place h = run-take-place u h
+
+module _ (u : GiveBackRun) where
+  -- accepted, the slot keeps clinic, measure and indent, and all its other words are 0
+  pub give-back-empties : giveReply u .number ≡ 0 → givenAfter u ≡ emptied (givenBefore u)
+  give-back-empties h = run-emptied u h
+
+  -- it is refused as every edit of that slot is, up to 4, and accepted otherwise; it names no place
+  pub give-back-as-edit : (e : EditRun) → Beside u e → giveReply u .number ≡ upTo4 (answer e .number)
+  give-back-as-edit e b = run-as-edit u e b
+
+  pub give-back-place : giveReply u .place ≡ 0
+  give-back-place = run-give-place u
+
+module _ (r : Run) (c : Clinic) (k : SlotNumber) (q : SlotCall) (e : call r ≡ call-on c k q) where
+  -- 14, of every call on a slot: exactly where none of 17, 1, 2 and 3 is due and the in-use word is 0
+  pub answer-14-exactly : (numberOf (reply r) ≡ 14)
+      ↔ ((faultOf q ≡ none) × Reached (before r) (c .0) (k .0) × (inUseOf (slotAt (before r) (k .0)) ≡ 0))
+  answer-14-exactly = run-14 r c k q e
+
+  -- an in-use word above 1 is 4
+  pub in-use-above-1 : faultOf q ≡ none → Reached (before r) (c .0) (k .0) → 1 < inUseOf (slotAt (before r) (k .0)) →
+      numberOf (reply r) ≡ 4
+  in-use-above-1 f h w = run-misused r c k q e f h w
+
 -- Demand 3: sequences of calls, a call's reach, and two sheets -------------------------------------------------------
 
 -- a sequence of runs, on a sheet of any words, that begins with an accepted set-up or with refused ones before it: one
@@ -253,6 +328,29 @@ read-reach r c k e = read-kept r c k e
 pub two-sheets : (r q : Run) → call r ≡ call q → AlikeFor (call r) (before r) (before q) →
     (reply r ≡ reply q) × LeftAlike (call r) (reply r) (before r) (after r) (after q)
 two-sheets r q e a = run-alike r q e a
+
+-- a clinic's call changes no word of a slot that is not its own
+pub others-kept : (r : Run) (c : Clinic) → By c (call r) → (k : ℕ) → (c .0 ≡ clinicOf (slotAt (before r) k) → ⊥) →
+    slotAt (after r) k ≡ slotAt (before r) k
+others-kept r c b k h = run-foreign r c b k h
+
+-- "No clinic can use up another's slots." Two calls of two clinics in either order, r then q, and p, which is q's call,
+-- then t, which is r's: each is answered the same, and both leave the same sheet
+module _ (c d : Clinic) (other : c .0 ≡ d .0 → ⊥) where
+  pub either-order : (r q p t : Run) → By c (call r) → By d (call q) → EitherOrder r q p t →
+      (reply t ≡ reply r) × (reply p ≡ reply q) × (after t ≡ after q)
+  either-order r q p t b a o = (
+    same-first-reply c d other r q p t b a o,
+    same-second-reply c d other r q p t b a o,
+    same-after c d other r q p t b a o,
+  )
+
+  -- so a take by one changes no answer of a take, an edit, an import, a read or a giving back by the other, and none of
+  -- these changes what the take is answered
+  pub none-used-up : (u v : TakeRun) (q p : Run) → taker u ≡ c → By d (call q) →
+      EitherOrder (take-run u) q p (take-run v) → (reply q ≡ reply p) × (reply (take-run v) ≡ reply (take-run u))
+  none-used-up u v q p e a o =
+      let s = either-order (take-run u) q p (take-run v) (ap (λ (x : Clinic). x .0) e) a o in (sym (s .1), s .0)
 
 -- a refused call changes nothing in the book
 pub book-refusals : (n : ℕ) (c : Call) (b : List BookSlot) → (numberOf (bookStep n c b .0) ≡ 0 → ⊥) →

@@ -7,29 +7,30 @@ use mathlib.Core.Bool.{true}
 use mathlib.Core.List.{List, [], _∷_, _++_, append-assoc}
 use mathlib.Core.Logic.{inl, inr}
 use mathlib.Core.Option.{none, some}
-use lib.ListN.{length, getD, take, drop, set, length-append, List·getD-eq-default}
+use lib.ListN.{length, getD, take, drop, set, length-append, drop-of-length-le, List·getD-eq-default}
 use lib.Seq.{take-at, drop-at, split-at, set-split, length-take-le}
 use Rattle.rules.specs.Records.{badRecord}
 use Rattle.rules.specs.Basics.{cut, firstFailing}
 use Rattle.rules.specs.Listed.{notListed}
 use Rattle.rules.specs.Groups.{groupFault, units}
 use Rattle.rules.specs.Breaks.{runs, wideRun, noBreaking}
-use Rattle.rules.specs.Sheet.{Setting, clinicOf, slotLimitsOk, slotAt, withSlot}
+use Rattle.rules.specs.Sheet.{Setting, settingOf, slotLimitsOk, slotAt, withSlot}
 use Rattle.rules.specs.Refusals.{judged, settingAt, badSlot, freshSlots}
 use Rattle.rules.specs.Meanings.{All, all-none, all-more}
 use Rattle.rules.proofs.Facts.{tested, ordered, some-none}
 use Rattle.rules.proofs.Parts.{all-take}
 use Rattle.sheet.specs.Book.{BookSlot, bookAt, emptySlots, encodeSlot, encode}
-use Rattle.sheet.proofs.Entry.{clinic-at}
 use Rattle.rules.proofs.SlotWords.{length-slot, slot-setting, slot-fresh}
 
 -- Well-formed books -------------------------------------------------------------------------------------------------
 
--- a slot within its limits, whose records are at most 256 and fall under none of 8, 12, 9 and 10; an unassigned one has
--- none
+-- a slot within its limits, whose records are at most 256 and fall under none of 8, 12, 9 and 10; one that is unassigned
+-- or not in use has none
 pub record Sound (s : BookSlot) : Type 0 where
   pub limits : slotLimitsOk (s .setting) ≡ true
+  pub use-limits : s .setting .inUse ≤ 1
   pub unassigned : s .setting .clinic ≡ 0 → s .records ≡ []
+  pub unused : s .setting .inUse ≡ 0 → s .records ≡ []
   pub few : length (s .records) ≤ 256
   pub right : judged (s .setting .measure) (s .setting .indent) (s .records) .number ≡ 0
 
@@ -102,18 +103,15 @@ module _ (b : List BookSlot) (h : All Sound b) (k : ℕ) (within : k < length b)
       ∙ rw (take-at before (here ++ after) (2824 * k) length-before, rest)
       (sym (ap encode (set-split b k t within) ∙ encode-append (take k b) (t ∷ drop (suc k) b)))
 
--- the clinic of any slot, also past the end
-pub clinic-of : (b : List BookSlot) → All Sound b → (k : ℕ) →
-    clinicOf (slotAt (encode b) k) ≡ bookAt b k .setting .clinic
-clinic-of b h k =
+-- the setting of any slot, also past the end
+pub setting-of : (b : List BookSlot) → All Sound b → (k : ℕ) → settingOf (slotAt (encode b) k) ≡ bookAt b k .setting
+setting-of b h k =
     elim (ordered k (length b)) [
-      | inl w ↦
-          ap clinicOf (slot-of b h k w)
-          ∙ ap (λ (t : Setting). t .clinic) (slot-setting (bookAt b k .setting) (bookAt b k .records))
+      | inl w ↦ ap settingOf (slot-of b h k w) ∙ slot-setting (bookAt b k .setting) (bookAt b k .records)
       | inr w ↦
-          clinic-at (encode b) k
-          ∙ List·getD-eq-default (encode b) 0 {n = 2824 * k} (omega (arith, length-encode h))
-          ∙ sym (ap (λ s. s .setting .clinic) (List·getD-eq-default b _ {n = k} w))
+          let none : drop (2824 * k) (encode b) ≡ []
+          = drop-of-length-le (encode b) {i = 2824 * k} (omega (arith, length-encode h)) in
+          ap (λ l. settingOf (take 2824 l)) none ∙ sym (ap (λ s. s .setting) (List·getD-eq-default b _ {n = k} w))
     ]
 
 -- What set-up leaves ------------------------------------------------------------------------------------------------
@@ -122,11 +120,13 @@ pub none-right : (m x : ℕ) → judged m x [] .number ≡ 0
 unfolding judged badRecord notListed firstFailing groupFault noBreaking wideRun runs units cut
 none-right m x = refl
 
-pub sound-none : (t : Setting) → slotLimitsOk t ≡ true → Sound (record { setting = t; records = [] })
-sound-none t e =
+pub sound-none : (t : Setting) → slotLimitsOk t ≡ true → t .inUse ≤ 1 → Sound (record { setting = t; records = [] })
+sound-none t e u =
     record {
       limits = e;
+      use-limits = u;
       unassigned = λ z. refl;
+      unused = λ z. refl;
       few = omega arith;
       right = none-right (t .measure) (t .indent);
     }
@@ -148,7 +148,7 @@ module _ (cs ms xs : List ℕ) where
   sound-empty k (suc n) e =
       elim (tested (slotLimitsOk (settingAt cs ms xs k))) [
         | inl t ↦
-            all-more (sound-none _ t)
+            all-more (sound-none (settingAt cs ms xs k) t (omega arith))
             (sound-empty (suc k) n (rw (t, badSlot) at e))
         | inr t ↦ let f : some k ≡ none = rw (t, badSlot) at e in absurd (some-none f)
       ]

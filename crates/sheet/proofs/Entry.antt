@@ -1,4 +1,4 @@
--- Laws of the rows 1 to 3, with which each call on a slot begins, and of the words of a slot in its sheet.
+-- Laws of the rows 1 to 3 and 14, with which each call on a slot begins, and of the words of a slot in its sheet.
 -- Assumes nothing.
 use mathlib.Core.Path.{_≡_, refl, sym, ap, _∙_}
 use Prim.Native.Nat.{ℕ, zero, suc, _+_, _-_, _*_, _≤_, _<_}
@@ -13,7 +13,7 @@ use borrow.Rule.Slice.PartMut.{putMid}
 use borrow.Author.Tests.{leb-false, le-leb, lt-leb}
 use borrow.Author.Tests.{eqb-true, eqb-false, eq-eqb, ne-eqb, not-false}
 use Rattle.rules.specs.Basics.{within}
-use Rattle.rules.specs.Sheet.{clinicOf, slotCount, lengthOk, slotAt, withSlot}
+use Rattle.rules.specs.Sheet.{clinicOf, inUseOf, slotCount, lengthOk, slotAt, withSlot}
 use Rattle.rules.specs.Refusals.{Answer, says, Outcome, callRows, called, onSlot}
 use Rattle.sheet.proofs.Tables.{passed}
 use Rattle.sheet.proofs.Lengths.{or-left, or-right, Whole, whole}
@@ -24,6 +24,9 @@ word-at ws k j h = getD-take 2824 (drop (2824 * k) ws) j 0 h ∙ getD-drop (2824
 
 pub clinic-at : (ws : List ℕ) (k : ℕ) → clinicOf (slotAt ws k) ≡ getD ws (2824 * k) 0
 clinic-at ws k = rw add-zero at (word-at ws k 0 (omega arith))
+
+pub in-use-at : (ws : List ℕ) (k : ℕ) → inUseOf (slotAt ws k) ≡ getD ws (2824 * k + 5) 0
+in-use-at ws k = word-at ws k 5 (omega arith)
 
 -- a part of a slot, in its sheet
 take-within : (n j m : ℕ) (l : List ℕ) → j + n ≤ m → take n (drop j (take m l)) ≡ take n (drop j l)
@@ -37,46 +40,62 @@ pub part-of-slot : (ws : List ℕ) (k j n : ℕ) → j + n ≤ 2824 →
 part-of-slot ws k j n h =
     ap (take n) (sym (drop-drop j (2824 * k) ws)) ∙ sym (take-within n j 2824 (drop (2824 * k) ws) h)
 
--- what the rows 1 to 3 leave of a call on slot k
+-- what these rows leave of a call on slot k
 pub record Entered (ws : List ℕ) (caller k : ℕ) : Type 0 where
   pub whole : Whole (length ws)
   pub within : k < slotCount ws
   pub known : caller ≡ 0 → ⊥
   pub own : caller ≡ clinicOf (slotAt ws k)
+  pub used : inUseOf (slotAt ws k) ≡ 0 → ⊥
 
 module _ (ws : List ℕ) (caller k : ℕ) where
-  abbrev foreign : Bool
+  abbrev pub foreign : Bool
   foreign = eqb caller 0 || not (eqb caller (clinicOf (slotAt ws k)))
 
-  -- by the tests of the three rows
-  called-by : (a b c : Bool) → not (lengthOk (length ws)) ≡ a → leb (slotCount ws) k ≡ b → foreign ≡ c →
-      called ws caller k ≡ cond a (says 1 0) (cond b (says 2 0) (cond c (says 3 0) (says 0 0)))
+  abbrev free : Bool
+  free = eqb (inUseOf (slotAt ws k)) 0
+
+  -- by the tests of the four rows
+  called-by : (a b c d : Bool) → not (lengthOk (length ws)) ≡ a → leb (slotCount ws) k ≡ b → foreign ≡ c → free ≡ d →
+      called ws caller k ≡ cond a (says 1 0) (cond b (says 2 0) (cond c (says 3 0) (cond d (says 14 0) (says 0 0))))
   unfolding called callRows
-  called-by a b c p q r = rw (p, q, r)
+  called-by a b c d p q r t = rw (p, q, r, t)
 
   pub called-1 : lengthOk (length ws) ≡ false → called ws caller k ≡ says 1 0
-  called-1 p = called-by true (leb (slotCount ws) k) foreign (ap not p) refl refl
+  called-1 p = called-by true (leb (slotCount ws) k) foreign free (ap not p) refl refl refl
 
   pub called-2 : lengthOk (length ws) ≡ true → slotCount ws ≤ k → called ws caller k ≡ says 2 0
-  called-2 p q = called-by false true foreign (ap not p) (le-leb _ _ q) refl
+  called-2 p q = called-by false true foreign free (ap not p) (le-leb _ _ q) refl refl
 
   pub called-3 : lengthOk (length ws) ≡ true → k < slotCount ws → foreign ≡ true → called ws caller k ≡ says 3 0
-  called-3 p q r = called-by false false true (ap not p) (lt-leb _ _ q) r
+  called-3 p q r = called-by false false true free (ap not p) (lt-leb _ _ q) r refl
 
-  pub called-0 : lengthOk (length ws) ≡ true → k < slotCount ws → foreign ≡ false → called ws caller k ≡ says 0 0
-  called-0 p q r = called-by false false false (ap not p) (lt-leb _ _ q) r
+  module _ (p : lengthOk (length ws) ≡ true) (q : k < slotCount ws) (r : foreign ≡ false) where
+    pub called-14 : inUseOf (slotAt ws k) ≡ 0 → called ws caller k ≡ says 14 0
+    called-14 t = called-by false false false true (ap not p) (lt-leb _ _ q) r (eq-eqb _ _ t)
 
-  -- a call that is not refused by 1 to 3 knows this
+    pub called-0 : (inUseOf (slotAt ws k) ≡ 0 → ⊥) → called ws caller k ≡ says 0 0
+    called-0 t = called-by false false false false (ap not p) (lt-leb _ _ q) r (ne-eqb _ _ t)
+
+  -- a caller that is not foreign is the slot's clinic, and not 0
+  pub not-foreign : foreign ≡ false → (caller ≡ 0 → ⊥) × (caller ≡ clinicOf (slotAt ws k))
+  not-foreign r = (
+    eqb-false _ _ (or-left (eqb caller 0) _ r),
+    eqb-true _ _ (not-false _ (or-right (eqb caller 0) _ r)),
+  )
+
+  -- a call that is not refused by these rows knows this
   pub entered : called ws caller k .number ≡ 0 → Entered ws caller k
   unfolding called callRows
   entered e =
       let p = passed 0 (callRows ws caller k) (says 0 0) refl e .0 in
-      let r = p .1 .1 .0 in
+      let r = not-foreign (p .1 .1 .0) in
       record {
         whole = whole (length ws) (not-false _ (p .0));
         within = leb-false _ _ (p .1 .0);
-        known = eqb-false _ _ (or-left (eqb caller 0) _ r);
-        own = eqb-true _ _ (not-false _ (or-right (eqb caller 0) _ r));
+        known = r .0;
+        own = r .1;
+        used = eqb-false _ _ (p .1 .1 .1 .0);
       }
 
 -- A call on a slot, as a program makes it ---------------------------------------------------------------------------
@@ -85,7 +104,7 @@ module _ {A : Type 0} (refused : Answer → A) (ws : List ℕ) (caller k : ℕ) 
   abbrev done : Outcome A
   done = onSlot refused ws caller k f
 
-  -- one of the rows 1 to 3 applies
+  -- one of the rows 1 to 3 and 14 applies
   pub on-refused : (a : Answer) → a ≡ called ws caller k → (a .number ≡ 0 → ⊥) →
       _≡_ {A = Outcome A} (refused a, ws) done
   unfolding onSlot

@@ -11,20 +11,22 @@ use borrow.Author.Tests.{eqb-true, eq-eqb, ne-eqb}
 use Rattle.rules.specs.Sheet.{clinicOf, slotCount, slotAt}
 use Rattle.rules.specs.Refusals.{setUpAnswer, setUp}
 use Rattle.rules.proofs.Facts.{tested}
-use Rattle.sheet.specs.Book.{Call, call-set-up, call-on, set-up-reply, edit-reply, numberOf, refusal, faultOf}
-use Rattle.sheet.specs.Book.{inSlot, step}
+use Rattle.sheet.specs.Book.{Call, call-set-up, call-take, call-on, answer-reply, edit-reply, numberOf}
+use Rattle.sheet.specs.Book.{refusal, faultOf, inSlot, step}
 use Rattle.sheet.specs.Meanings.{beyond, AlikeFor, LeftAlike}
 use Rattle.sheet.proofs.Lists.{accepted}
 use Rattle.sheet.proofs.Fresh.{length-fresh-slots}
 use Rattle.sheet.proofs.OnSlot.{on-length, on-unchanged}
 use Rattle.sheet.proofs.Faulted.{unless, unless-both}
 use Rattle.sheet.proofs.Alike.{on-alike, on-left-alike}
+use Rattle.sheet.proofs.TakenSlots.{take-keeps, take-length, take-alike, take-left-alike}
 use Rattle.sheet.proofs.SlotCalls.{keeps}
 
 -- "Every refusal leaves the whole sheet unchanged."
 pub refused-unchanged : (c : Call) (ws : List ℕ) → (numberOf (step c ws .0) ≡ 0 → ⊥) → step c ws .1 ≡ ws
 unfolding setUp
 refused-unchanged (call-set-up cs ms xs) ws = λ z. rw (ne-eqb _ _ z)
+refused-unchanged (call-take c) ws = take-keeps ws (c .0)
 refused-unchanged (call-on c k q) ws =
     unless edit-reply (λ o. (numberOf (o .0) ≡ 0 → ⊥) → o .1 ≡ ws) (faultOf q) ws _ (λ p z. refl)
     (on-unchanged (refusal q) ws (c .0) (k .0) (inSlot q) numberOf (keeps q .number) (keeps q .unchanged))
@@ -39,6 +41,7 @@ step-length (call-set-up cs ms xs) ws =
           rw e (length-fresh-slots cs ms xs 0 (slotCount ws) ∙ omega (arith, f .slots, f .exact))
       | inr e ↦ rw e
     ]
+step-length (call-take c) ws = take-length ws (c .0)
 step-length (call-on c k q) ws =
     unless edit-reply (λ o. length (o .1) ≡ length ws) (faultOf q) ws _ (λ p. refl)
     (on-length (refusal q) ws (c .0) (k .0) (inSlot q) (keeps q .whole))
@@ -46,7 +49,8 @@ step-length (call-on c k q) ws =
 -- what a call answers is the same on sheets that are alike for it
 pub same-reply : (c : Call) (ws vs : List ℕ) → AlikeFor c ws vs → step c ws .0 ≡ step c vs .0
 unfolding setUp
-same-reply (call-set-up cs ms xs) ws vs a = ap (λ n. set-up-reply (setUpAnswer n cs ms xs)) a
+same-reply (call-set-up cs ms xs) ws vs a = ap (λ n. answer-reply (setUpAnswer n cs ms xs)) a
+same-reply (call-take c) ws vs a = ap answer-reply (take-alike ws vs (c .0) a)
 same-reply (call-on c k q) ws vs a =
     unless-both edit-reply (λ o r. o .0 ≡ r .0) (faultOf q) ws vs _ _ (λ p. refl)
     (on-alike ws vs (c .0) (k .0) a (refusal q) (inSlot q))
@@ -56,6 +60,7 @@ pub left-alike : (c : Call) (ws vs : List ℕ) → AlikeFor c ws vs →
     LeftAlike c (step c ws .0) ws (step c ws .1) (step c vs .1)
 unfolding setUp
 left-alike (call-set-up cs ms xs) ws vs a = λ z. rw (← a, eq-eqb _ _ z)
+left-alike (call-take c) ws vs a = take-left-alike ws vs (c .0) a
 left-alike (call-on c k q) ws vs a =
     unless-both edit-reply
     (λ o r. beyond (length ws) (k .0) ≡ false → (c .0 ≡ 0 → ⊥) → c .0 ≡ clinicOf (slotAt ws (k .0)) →

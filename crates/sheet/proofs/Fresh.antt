@@ -1,47 +1,18 @@
--- Laws of zeros, and of the fresh slots that set-up writes. Assumes nothing.
+-- Laws of the fresh slots that set-up writes. Assumes nothing.
 use mathlib.Core.Path.{_≡_, refl, _∙_}
 use Prim.Native.Nat.{ℕ, zero, suc, _+_, _-_, _*_, _≤_, _<_}
 use native.Mathlib.Nat.{add-zero, zero-add, add-suc, suc-add}
 use native.Mathlib.Numerals.{add-one}
 use native.Mathlib.Omega.{arith}
 use mathlib.Core.List.{List, [], _++_, append-assoc, append-nil}
-use lib.ListN.{length, take, drop, set, length-append, length-set}
+use lib.ListN.{length, take, drop, set, length-append}
 use lib.ListN.{drop-of-length-le}
 use lib.Seq.{take-at, drop-at, drop-drop}
-use borrow.Author.Fill.{fill-none, fill-more}
 use borrow.Rule.Slice.PartMut.{putMid, same-len-mid}
 use Rattle.rules.specs.Basics.{zeros}
 use Rattle.rules.specs.Sheet.{setting, fresh}
 use Rattle.rules.specs.Refusals.{settingAt, freshSlots}
 use Rattle.rules.proofs.Zeros.{length-zeros, zeros-append}
-
--- Zeros -------------------------------------------------------------------------------------------------------------
-
--- a loop that clears words: the first i of them are 0
-pub record Cleared (old words : List ℕ) (i : ℕ) : Type 0 where
-  pub within : i ≤ length old
-  pub same : length words ≡ length old
-  pub now : words ≡ zeros i ++ drop i old
-
-pub clear-none : (old : List ℕ) → Cleared old old 0
-unfolding zeros
-clear-none old = record { within = omega arith; same = refl; now = fill-none old 0 }
-
-pub clear-more : {old words : List ℕ} {i : ℕ} → Cleared old words i → i < length old →
-    Cleared old (set words i 0) (i + 1)
-unfolding zeros
-clear-more {old} {words} {i} c h =
-    record {
-      within = omega arith;
-      same = length-set words i 0 ∙ c .same;
-      now = rw (c .now) (fill-more i 0 old h);
-    }
-
-pub clear-all : {old words : List ℕ} {i : ℕ} → Cleared old words i → length words ≤ i → words ≡ zeros (length old)
-clear-all {old} {words} {i} c h =
-    let e : i ≡ length old = omega (arith, c .within, c .same) in
-    let nil : drop i old ≡ [] = drop-of-length-le old {i = i} (omega arith) in
-    c .now ∙ rw (nil, append-nil, e)
 
 -- the stores of a fresh slot
 pub stores : (words : List ℕ) (clinic m x : ℕ) → words ≡ zeros 2824 →

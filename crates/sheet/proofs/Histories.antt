@@ -1,9 +1,10 @@
 -- Demand 3 proved of each sequence of runs, from the first accepted set-up on. Assumes nothing.
 use mathlib.Core.Path.{_≡_, refl, sym, ap, subst, _∙_}
-use Prim.Native.Nat.{ℕ, _<_}
+use Prim.Native.Nat.{ℕ, _/_, _<_}
 use native.Mathlib.Omega.{arith}
 use mathlib.Core.List.{List, [], _∷_, _++_, map, map-append}
 use lib.ListN.{length}
+use borrow.Author.Tests.{ne-eqb}
 use denote.Ref.{now}
 use Rattle.rules.specs.Sheet.{recordsOf, slotCount, slotAt}
 use Rattle.rules.specs.Refusals.{Answer, says, Outcome, setUpAnswer, setUp}
@@ -11,11 +12,13 @@ use Rattle.rules.specs.Stable.{AsRuled}
 use Rattle.rules.specs.Meanings.{All, Listed}
 use Rattle.rules.proofs.Claims.{accepted-listed}
 use Rattle.rules.proofs.SlotWords.{slot-records, slot-as-ruled}
-use Rattle.sheet.specs.Book.{Reply, set-up-reply, numberOf, step}
+use Rattle.sheet.specs.Book.{Reply, answer-reply, numberOf, step}
 use Rattle.sheet.specs.Book.{BookSlot, bookAt, encodeSlot, inWords, runBook}
+use Rattle.sheet.specs.History.{anew, next, historyFrom, Follows}
 use Rattle.sheet.proofs.Tables.{same-number}
 use Rattle.sheet.proofs.Encode.{Sound, WellFormed, all-at, slot-of}
 use Rattle.sheet.proofs.Sequences.{begins-book, refused-book, remains, whole-sequence, restarts, never-4}
+use Rattle.sheet.proofs.Replays.{set-up-follows, sequence-follows}
 use Rattle.sheet.proofs.Frame.{refused-unchanged, step-length}
 use Rattle.sheet.proofs.Runs.{SetUpRun, Run, set-up-run, call, before, after, reply, Chained, final}
 use Rattle.sheet.proofs.Told.{told, runs-are}
@@ -89,7 +92,7 @@ kept-refused ws u rs z h rest =
     let book : booked n (r ∷ rs) ≡ (reply r ∷ booked n rs .0, booked n rs .1)
     = ap
     (λ (o : Reply × List BookSlot). let l = runBook n (map call rs) (o .1) in (o .0 ∷ l .0, l .1))
-    (refused-book n (clinics u) (measures u) (indents u) [] no ∙ ap (λ (o : Answer). (set-up-reply o, [])) (sym a)) in
+    (refused-book n (clinics u) (measures u) (indents u) [] no ∙ ap (λ (o : Answer). (answer-reply o, [])) (sym a)) in
     record {
       well = rw book (k .well);
       same = ap (λ vs. (reply r ∷ map reply rs, final vs rs)) unchanged
@@ -100,6 +103,25 @@ kept-refused ws u rs z h rest =
 kept : (ws : List ℕ) (rs : List Run) → Begun rs → Chained ws rs → Kept ws rs
 kept ws (set-up-run u ∷ rs) (accepted-first z) h = kept-accepted ws u rs z h
 kept ws (set-up-run u ∷ rs) (refused-first z b) h = kept-refused ws u rs z h (kept ws rs b)
+
+-- the book follows the histories that its own replies tell, on a sheet of n words
+book-follows : (n : ℕ) (ws : List ℕ) (rs : List Run) → Begun rs → Chained ws rs → length ws ≡ n → (k : ℕ) →
+    k < n / 2824 → Follows (bookAt (booked n rs .1) k) (historyFrom k (anew 0) (map call rs) (booked n rs .0))
+book-follows n ws (set-up-run u ∷ rs) (accepted-first z) h e k within =
+    let ok = sym (same-number (set-up-said u n (ap length (h .0) ∙ e))) ∙ z in
+    let w = begins-book n (clinics u) (measures u) (indents u) ok [] in
+    sequence-follows n (map call rs) _ w k (omega (arith, w .exact)) _
+    (set-up-follows n (clinics u) (measures u) (indents u) [] k (anew 0) (record { records = refl; in-use = refl }))
+book-follows n ws (set-up-run u ∷ rs) (refused-first z b) h e k within =
+    let a = set-up-said u n (ap length (h .0) ∙ e) in
+    let no : setUpAnswer n (clinics u) (measures u) (indents u) .number ≡ 0 → ⊥ = λ y. z (same-number a ∙ y) in
+    subst
+    (λ (o : Reply × List BookSlot).
+    let l = runBook n (map call rs) (o .1) in
+    Follows (bookAt (l .1) k) (historyFrom k (next k (call (set-up-run u)) (o .0) (anew 0)) (map call rs) (l .0)))
+    (sym (refused-book n (clinics u) (measures u) (indents u) [] no))
+    (rw (ne-eqb _ _ no)
+    (book-follows n (after (set-up-run u)) rs b (h .1) (final-length (set-up-run u ∷ []) ws (h .0, tt) ∙ e) k within))
 
 module _ (ws : List ℕ) (rs : List Run) (b : Begun rs) (h : Chained ws rs) where
   abbrev n : ℕ
@@ -150,6 +172,7 @@ module _ (ws : List ℕ) (rs : List Run) (b : Begun rs) (h : Chained ws rs) wher
         answers = answers;
         whole = final-length rs ws h;
         slots = slot-is;
+        histories = λ k within. rw answers (book-follows n ws rs b h refl k within);
         anew = starts-anew;
         never = rw answers (never-4 n (map call rs) []);
       }

@@ -9,7 +9,7 @@ use borrow.Author.Tests.{ltb-true, ltb-false, leb-true, le-leb, lt-leb}
 use borrow.Author.Tests.{eqb-true, eq-eqb, ne-eqb}
 use Rattle.rules.specs.Basics.{within}
 use Rattle.rules.specs.Sheet.{lengthOk}
-use Rattle.rules.proofs.Facts.{tested, true-false}
+use Rattle.rules.proofs.Facts.{tested, ordered, true-false}
 use Rattle.rules.proofs.Limits.{and-left, and-right}
 
 pub or-left : (a b : Bool) → a || b ≡ false → a ≡ false
@@ -69,11 +69,27 @@ module _ (n : ℕ) where
   between e =
       within-limits n (ltb-false n 2824 (or-left _ (ltb 180736 n) e)) (ltb-false 180736 n (or-right (ltb n 2824) _ e))
 
-  pub some-exact : beside ≡ false → 2824 * (n / 2824) ≡ n → n / 2824 ≡ slots
-  some-exact e q = rw (between e ∙ eq-eqb (n % 2824) 0 (omega (arith, q)))
+  -- a multiple of 2,824
+  pub some-exact : beside ≡ false → {p : ℕ} → 2824 * p ≡ n → p ≡ slots
+  some-exact e {p} q = let d : p ≡ n / 2824 = omega arith in rw (between e ∙ eq-eqb (n % 2824) 0 (omega (arith, q)), d)
 
-  pub none-inexact : beside ≡ false → (2824 * (n / 2824) ≡ n → ⊥) → 0 ≡ slots
-  none-inexact e q = rw (between e ∙ ne-eqb (n % 2824) 0 (λ z. q (omega (arith, z))))
+  pub at-most : beside ≡ false → n ≤ 180736
+  at-most e = ltb-false 180736 n (or-right (ltb n 2824) _ e)
+
+  -- of whole slots a product and a shift give the number
+  by-product : n ≤ 180736 → n % 2824 ≡ 0 → n * 23764 / 67108864 ≡ n / 2824
+  by-product h z =
+      let p = n / 2824 in
+      let q = n * 23764 / 67108864 in
+      let e : n ≡ 2824 * p = omega arith in
+      elim (ordered p q) [
+        | inl g ↦ absurd (omega arith)
+        | inr g ↦ elim (ordered q p) [ inl l ↦ absurd (omega arith) | inr l ↦ omega arith ]
+      ]
+
+  pub none-inexact : beside ≡ false → (2824 * (n * 23764 / 67108864) ≡ n → ⊥) → 0 ≡ slots
+  none-inexact e q =
+      rw (between e ∙ ne-eqb (n % 2824) 0 (λ z. q (omega (arith, by-product (at-most e) z))))
 
   pub without-slots : {p : ℕ} → p ≡ slots → p ≡ 0 → lengthOk n ≡ false
   without-slots {p} e z =

@@ -1,11 +1,13 @@
--- Numbers that tables do not give: records none but 8, 12, 9, 10 and 0; an edit not 17; set-up's lists not 4.
+-- Numbers that tables do not give: records none but 8, 12, 9, 10 and 0; an edit not 17, nor 14 past the rows
+-- before it; set-up's lists and a take not 4.
 -- Assumes nothing.
 use mathlib.Core.Path.{_≡_, refl, sym}
-use Prim.Native.Nat.{ℕ, _/_}
+use Prim.Native.Nat.{ℕ, _+_, _-_, _/_, _%_}
 use native.Mathlib.Omega.{arith}
-use mathlib.Core.Bool.{false}
+use mathlib.Core.Bool.{Bool, true, false, not, _||_}
 use mathlib.Core.List.{List, [], _∷_}
 use mathlib.Core.Option.{Option, none, some}
+use lib.Dec.{ltb, eqb}
 use lib.ListN.{length}
 use Rattle.rules.specs.Basics.{isIn}
 use Rattle.rules.specs.Records.{Rec, badRecord}
@@ -13,10 +15,12 @@ use Rattle.rules.specs.Listed.{notListed}
 use Rattle.rules.specs.Groups.{groupFault, units}
 use Rattle.rules.specs.Breaks.{noBreaking}
 use Rattle.rules.specs.Adjustment.{compose}
-use Rattle.rules.specs.Refusals.{Answer, says, EditAnswer, asEdit, Outcome, orElse, judged, slotRows, editSlot}
-use Rattle.rules.specs.Refusals.{callRows, called, edit, badSlot, setUpRows, setUpAnswer}
+use Rattle.rules.specs.Sheet.{countOf}
+use Rattle.rules.specs.Refusals.{Answer, says, EditAnswer, asEdit, Outcome, orElse, judged, sound, slotRows}
+use Rattle.rules.specs.Refusals.{editSlot, callRows, called, edit, badSlot, setUpRows, setUpAnswer}
+use Rattle.rules.specs.Pool.{OwnSlot, lowestFree, granted, takeRows, takeAnswer}
 use Rattle.rules.proofs.Facts.{true-false}
-use Rattle.sheet.proofs.Tables.{passed}
+use Rattle.sheet.proofs.Tables.{lacking, passed}
 use Rattle.sheet.proofs.OnSlot.{Done, entering, refusing, on-cases}
 
 -- Records -----------------------------------------------------------------------------------------------------------
@@ -38,22 +42,40 @@ judged-not n h m x rs e =
 
 -- Edits -------------------------------------------------------------------------------------------------------------
 
-slot-not-17 : (s : List ℕ) (place deleted : ℕ) (inserted : List ℕ) →
-    editSlot s place deleted inserted .0 .number ≡ 17 → ⊥
+pub slot-not : (n : ℕ) → isIn n (8 ∷ 12 ∷ 9 ∷ 10 ∷ 0 ∷ []) ≡ false →
+    (s : List ℕ) (place deleted : ℕ) (inserted : List ℕ) → lacking n (slotRows s place deleted inserted) ≡ true →
+    editSlot s place deleted inserted .0 .number ≡ n → ⊥
+unfolding editSlot
+slot-not n h s place deleted inserted l e =
+    judged-not n h _ _ _ (passed n (slotRows s place deleted inserted) _ l e .1)
+
+-- nor 4 on a sound slot
+pub slot-not-4 : (s : List ℕ) (place deleted : ℕ) (inserted : List ℕ) → sound s ≡ true →
+    editSlot s place deleted inserted .0 .number ≡ 4 → ⊥
 unfolding editSlot slotRows
-slot-not-17 s place deleted inserted e =
-    judged-not 17 refl _ _ _ (passed 17 (slotRows s place deleted inserted) _ refl e .1)
+slot-not-4 s place deleted inserted e f =
+    let rest : List (Bool × Answer)
+    = (ltb (countOf s) place || ltb (countOf s) (place + deleted), says 5 (countOf s))
+    ∷ (not (eqb (length inserted % 6) 0), says 6 0)
+    ∷ (ltb 256 (countOf s - deleted + length inserted / 6), says 7 0)
+    ∷ [] in
+    judged-not 4 refl _ _ _ (passed 4 rest _ refl (rw e at f) .1)
+
+pub slot-not-14 : (s : List ℕ) (place deleted : ℕ) (inserted : List ℕ) →
+    editSlot s place deleted inserted .0 .number ≡ 14 → ⊥
+unfolding slotRows
+slot-not-14 s place deleted inserted = slot-not 14 refl s place deleted inserted refl
 
 pub edit-not-17 : (ws : List ℕ) (caller k place deleted : ℕ) (inserted : List ℕ) →
     edit ws caller k place deleted inserted .0 .number ≡ 17 → ⊥
-unfolding edit called callRows
+unfolding edit called callRows slotRows
 edit-not-17 ws caller k place deleted inserted = from (on-cases asEdit ws caller k here)
   where
     here : List ℕ → Outcome EditAnswer
     here s = editSlot s place deleted inserted
 
     from : {o : Outcome EditAnswer} → Done asEdit ws caller k here o → o .0 .number ≡ 17 → ⊥
-    from (entering z) e = slot-not-17 _ place deleted inserted e
+    from (entering z) e = slot-not 17 refl _ place deleted inserted refl e
     from (refusing z) e =
         let y : _≡_ {A = ℕ} 0 17 = passed 17 (callRows ws caller k) (says 0 0) refl e .1 in omega arith
 
@@ -69,3 +91,13 @@ unfolding setUpRows setUpAnswer
 set-up-not-4 n cs ms xs e =
     else-not-4 11 (badSlot 0 cs ms xs (n / 2824)) (says 0 (n / 2824)) (λ f. omega arith) (λ f. omega arith)
     (passed 4 (setUpRows n cs ms xs) _ refl e .1)
+
+-- Takes -------------------------------------------------------------------------------------------------------------
+
+granted-not-4 : (o : Option ℕ) → granted o .number ≡ 4 → ⊥
+granted-not-4 none e = omega (arith, e)
+granted-not-4 (some k) e = omega (arith, e)
+
+pub take-not-4 : (n caller : ℕ) (own : List OwnSlot) → takeAnswer n caller own .number ≡ 4 → ⊥
+unfolding takeRows takeAnswer
+take-not-4 n caller own e = granted-not-4 (lowestFree own) (passed 4 (takeRows n caller) _ refl e .1)

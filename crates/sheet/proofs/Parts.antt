@@ -1,13 +1,17 @@
 -- Laws of a slot in its sheet: what stands where once the slot has other words. Assumes nothing.
 use mathlib.Core.Path.{_≡_, sym, ap, _∙_}
-use Prim.Native.Nat.{ℕ, _+_, _-_, _*_, _≤_}
+use Prim.Native.Nat.{ℕ, _+_, _-_, _*_, _≤_, _<_, min}
 use native.Mathlib.Omega.{arith}
 use mathlib.Core.List.{List, _++_}
 use mathlib.Core.Logic.{inl, inr}
-use lib.ListN.{length, getD, take, drop, length-append, length-drop, take-append-drop, List·getD-append}
-use lib.Seq.{length-take-le, take-at, drop-at, getD-take, getD-drop, getD-append-add}
+use lib.ListN.{length, getD, take, drop, set, length-append, length-take, length-drop, take-append-drop}
+use lib.ListN.{List·getD-append}
+use lib.Seq.{length-take-le, take-at, drop-at, getD-take, getD-drop, getD-append-add, ext-getD}
+use borrow.Rule.Slice.PartMut.{set-mid-at}
 use Rattle.rules.specs.Sheet.{slotAt, withSlot}
+use Rattle.rules.proofs.Facts.{ordered}
 use Rattle.sheet.specs.Meanings.{Outside}
+use Rattle.sheet.proofs.Entry.{word-at}
 
 module _ (ws : List ℕ) (k : ℕ) (s : List ℕ) (within : 2824 * k + 2824 ≤ length ws) (whole : length s ≡ 2824) where
   abbrev front : List ℕ
@@ -41,7 +45,40 @@ module _ (ws : List ℕ) (k : ℕ) (s : List ℕ) (within : 2824 * k + 2824 ≤ 
       ∙ getD-drop (2824 * k) ws (2824 + j) 0
       ∙ ap (λ n. getD ws n 0) (sym f)
 
+-- slots of two sheets of one length, whose words there are the same
+pub slot-by-words : (ws vs : List ℕ) (k : ℕ) → length ws ≡ length vs →
+    ((j : ℕ) → j < 2824 → getD ws (2824 * k + j) 0 ≡ getD vs (2824 * k + j) 0) → slotAt ws k ≡ slotAt vs k
+slot-by-words ws vs k e f =
+    let count : (us : List ℕ) → length (slotAt us k) ≡ min 2824 (length us - 2824 * k)
+    = λ us. length-take 2824 (drop (2824 * k) us) ∙ ap (min 2824) (length-drop (2824 * k) us) in
+    let few : length (slotAt ws k) ≤ 2824 = omega (arith, count ws) in
+    ext-getD 0 (slotAt ws k) (slotAt vs k) (count ws ∙ ap (λ n. min 2824 (n - 2824 * k)) e ∙ sym (count vs))
+    (λ j h.
+    let l : j < 2824 = omega (arith, few) in
+    word-at ws k j l ∙ f j l ∙ sym (word-at vs k j l))
+
 -- the slot's own words in their place
 pub put-back : (ws : List ℕ) (k : ℕ) → withSlot ws k (slotAt ws k) ≡ ws
 put-back ws k =
     ap (λ l. take (2824 * k) ws ++ l) (take-append-drop 2824 (drop (2824 * k) ws)) ∙ take-append-drop (2824 * k) ws
+
+-- another slot stays as it is
+pub slot-beside : (ws : List ℕ) (k : ℕ) (s : List ℕ) → 2824 * k + 2824 ≤ length ws → length s ≡ 2824 →
+    (j : ℕ) → (j ≡ k → ⊥) → slotAt (withSlot ws k s) j ≡ slotAt ws j
+slot-beside ws k s within whole j other =
+    slot-by-words (withSlot ws k s) ws j (length-with ws k s within whole)
+    (λ i h. word-with ws k s within whole (2824 * j + i) (beside i h))
+  where
+    beside : (i : ℕ) → i < 2824 → Outside k (2824 * j + i)
+    beside i h =
+        elim (ordered j k) [
+          | inl l ↦ inl (omega arith)
+          | inr l ↦ elim (ordered k j) [ inl g ↦ inr (omega arith) | inr g ↦ absurd (other (omega arith)) ]
+        ]
+
+-- one word of a slot changed
+pub set-in-slot : (ws : List ℕ) (k j a : ℕ) → 2824 * k + 2824 ≤ length ws → j < 2824 →
+    set ws (2824 * k + j) a ≡ withSlot ws k (set (slotAt ws k) j a)
+set-in-slot ws k j a within h =
+    let whole = length-take-le 2824 (drop (2824 * k) ws) (rw length-drop (omega arith)) in
+    sym (set-mid-at (2824 * k) 2824 j ws a (omega (arith, whole)))

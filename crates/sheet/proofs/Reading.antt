@@ -2,7 +2,7 @@
 use mathlib.Core.Path.{_≡_, refl, sym, _∙_}
 use Prim.Native.Nat.{ℕ, _+_, _-_, _*_, _≤_, _<_}
 use native.Mathlib.Omega.{arith}
-use mathlib.Core.Bool.{Bool, true, false, cond}
+use mathlib.Core.Bool.{Bool, true, false, cond, _||_, or-true}
 use mathlib.Core.List.{List, []}
 use mathlib.Core.Logic.{inl, inr}
 use lib.Dec.{ltb, eqb}
@@ -11,16 +11,16 @@ use lib.Seq.{length-take-le}
 use borrow.Author.Tests.{ltb-false, lt-ltb, le-ltb}
 use borrow.Author.Tests.{eqb-true, eqb-false, eq-eqb, ne-eqb}
 use Rattle.rules.specs.Basics.{within, firstOf}
-use Rattle.rules.specs.Sheet.{lineCountOf, slotAt}
+use Rattle.rules.specs.Sheet.{lineCountOf, inUseOf, slotAt}
 use Rattle.rules.specs.Refusals.{says, callRows, called}
 use Rattle.rules.specs.Refusals.{readRows, readNumber, readStart, readLength, readPart, readWords}
 use Rattle.rules.proofs.Facts.{tested}
 use Rattle.sheet.proofs.Tables.{same-number, then-table}
-use Rattle.sheet.proofs.Lengths.{whole}
-use Rattle.sheet.proofs.Entry.{word-at, part-of-slot, Entered, entered}
+use Rattle.sheet.proofs.Lengths.{or-left, or-right, whole}
+use Rattle.sheet.proofs.Entry.{word-at, in-use-at, part-of-slot, Entered, entered}
 
 module _ (ws : List ℕ) (caller k : ℕ) where
-  -- the rows 1 to 3, then 4
+  -- the rows 1 to 3 and 14, then 4
   number-by : readNumber ws caller k
       ≡ cond (eqb (called ws caller k .number) 0) (firstOf (readRows (slotAt ws k)) (says 0 0)) (called ws caller k)
       .number
@@ -30,16 +30,21 @@ module _ (ws : List ℕ) (caller k : ℕ) where
   pub number-refused : (n : ℕ) → n ≡ called ws caller k .number → (n ≡ 0 → ⊥) → n ≡ readNumber ws caller k
   number-refused n e z = rw (number-by, ← e, ne-eqb n 0 z)
 
-  -- past the rows 1 to 3 it is the slot's own
+  -- past these rows it is the slot's own
   pub number-in-slot : called ws caller k .number ≡ 0 →
       readNumber ws caller k ≡ firstOf (readRows (slotAt ws k)) (says 0 0) .number
   number-in-slot z = rw (number-by, eq-eqb _ _ z)
 
-  pub number-entered : called ws caller k .number ≡ 0 →
-      readNumber ws caller k ≡ cond (ltb 256 (getD ws (2824 * k + 4) 0)) 4 0
+  abbrev many : Bool
+  many = ltb 256 (getD ws (2824 * k + 4) 0)
+
+  abbrev misused : Bool
+  misused = ltb 1 (getD ws (2824 * k + 5) 0)
+
+  pub number-entered : called ws caller k .number ≡ 0 → readNumber ws caller k ≡ cond (many || misused) 4 0
   unfolding readRows
   number-entered z =
-      rw (number-in-slot z, word-at ws k 4 (omega arith)) (by-row (ltb 256 (getD ws (2824 * k + 4) 0)))
+      rw (number-in-slot z, word-at ws k 4 (omega arith), in-use-at ws k) (by-row (many || misused))
     where
       by-row : (t : Bool) → cond t (says 4 0) (says 0 0) .number ≡ cond t 4 0
       by-row true = refl
@@ -49,6 +54,7 @@ module _ (ws : List ℕ) (caller k : ℕ) where
   pub record Readable : Type 0 where
     pub entry : Entered ws caller k
     pub few : getD ws (2824 * k + 4) 0 ≤ 256
+    pub used : getD ws (2824 * k + 5) 0 ≤ 1
 
   pub number-called : readNumber ws caller k ≡ 0 → called ws caller k .number ≡ 0
   number-called z =
@@ -60,14 +66,16 @@ module _ (ws : List ℕ) (caller k : ℕ) where
   pub readable : readNumber ws caller k ≡ 0 → Readable
   readable z =
       let h = number-called z in
-      record { entry = entered ws caller k h; few = under (sym (number-entered h) ∙ z) }
+      let u = under (many || misused) (sym (number-entered h) ∙ z) in
+      record {
+        entry = entered ws caller k h;
+        few = ltb-false _ _ (or-left many misused u);
+        used = ltb-false _ _ (or-right many misused u);
+      }
     where
-      under : _≡_ {A = ℕ} (cond (ltb 256 (getD ws (2824 * k + 4) 0)) 4 0) 0 → getD ws (2824 * k + 4) 0 ≤ 256
-      under e =
-          elim (tested (ltb 256 (getD ws (2824 * k + 4) 0))) [
-            | inl l ↦ let y : _≡_ {A = ℕ} 4 0 = rw l at e in absurd (omega arith)
-            | inr l ↦ ltb-false _ _ l
-          ]
+      under : (b : Bool) → _≡_ {A = ℕ} (cond b 4 0) 0 → b ≡ false
+      under true e = let y : ⊥ = omega arith in absurd y
+      under false e = refl
 
   -- the words handed back
   pub read-refused : (readNumber ws caller k ≡ 0 → ⊥) → (readStart ws caller k ≡ 0) × (readLength ws caller k ≡ 0)
@@ -79,15 +87,20 @@ module _ (ws : List ℕ) (caller k : ℕ) where
   unfolding readStart readLength
   read-opened z = let e = eq-eqb _ _ z in (rw e, rw (e, word-at ws k 4 (omega arith)))
 
-  -- by the line count
-  pub number-under : called ws caller k .number ≡ 0 → getD ws (2824 * k + 4) 0 ≤ 256 → readNumber ws caller k ≡ 0
-  number-under z h = rw (number-entered z, le-ltb _ _ h)
+  -- by the line count and the in-use word
+  pub number-under : called ws caller k .number ≡ 0 → getD ws (2824 * k + 4) 0 ≤ 256 → getD ws (2824 * k + 5) 0 ≤ 1 →
+      readNumber ws caller k ≡ 0
+  number-under z h u = rw (number-entered z, le-ltb _ _ h, le-ltb _ _ u)
 
-  pub number-0 : called ws caller k .number ≡ 0 → lineCountOf (slotAt ws k) ≤ 256 → readNumber ws caller k ≡ 0
-  number-0 z h = number-under z (rw (word-at ws k 4 (omega arith)) at h)
+  pub number-0 : called ws caller k .number ≡ 0 → lineCountOf (slotAt ws k) ≤ 256 → inUseOf (slotAt ws k) ≤ 1 →
+      readNumber ws caller k ≡ 0
+  number-0 z h u = number-under z (rw (word-at ws k 4 (omega arith)) at h) (rw (in-use-at ws k) at u)
 
-  pub number-over : called ws caller k .number ≡ 0 → 256 < getD ws (2824 * k + 4) 0 → readNumber ws caller k ≡ 0 → ⊥
-  number-over z h e = let y : _≡_ {A = ℕ} 4 0 = rw (lt-ltb _ _ h) at (sym (number-entered z) ∙ e) in omega arith
+  pub number-over : called ws caller k .number ≡ 0 → 256 < getD ws (2824 * k + 4) 0 → readNumber ws caller k ≡ 4
+  number-over z h = rw (number-entered z, lt-ltb _ _ h)
+
+  pub number-misused : called ws caller k .number ≡ 0 → 1 < getD ws (2824 * k + 5) 0 → readNumber ws caller k ≡ 4
+  number-misused z u = rw (number-entered z, lt-ltb _ _ u, or-true)
 
   -- the part that a read hands back lies within the sheet, and within any sheet's limits
   pub record Fits : Type 0 where

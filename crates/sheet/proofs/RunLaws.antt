@@ -1,14 +1,17 @@
 -- Laws of each run of a call, from those of the definitions: what it leaves alone, what it goes by, and what reads
 -- hand back. Assumes nothing.
 use mathlib.Core.Path.{_≡_, refl, sym, ap, subst, _∙_}
-use Prim.Native.Nat.{ℕ, _*_}
+use Prim.Native.Nat.{ℕ, _*_, _<_}
 use mathlib.Core.List.{List, []}
+use mathlib.Core.Logic.{_↔_}
+use mathlib.Core.Option.{none}
 use lib.ListN.{length, getD, take, drop}
-use Rattle.rules.specs.Sheet.{lineCountOf, slotAt}
+use Rattle.rules.specs.Sheet.{clinicOf, lineCountOf, inUseOf, slotAt}
 use Rattle.rules.specs.Refusals.{Outcome, readNumber, readWords}
 use Rattle.sheet.specs.Book.{SlotCall, reads, call-on, Reply, edit-reply, read-reply, numberOf, refusal}
 use Rattle.sheet.specs.Book.{faultOf, inSlot, step}
-use Rattle.sheet.specs.Meanings.{Outside, AlikeFor, LeftAlike}
+use Rattle.sheet.specs.Meanings.{Outside, AlikeFor, LeftAlike, By}
+use Rattle.sheet.specs.FreeSlots.{Reached}
 use Rattle.sheet.specs.declared.Clinic.{Clinic}
 use Rattle.sheet.specs.declared.SlotNumber.{SlotNumber}
 use Rattle.sheet.proofs.OnSlot.{on-frame}
@@ -16,6 +19,8 @@ use Rattle.sheet.proofs.Faulted.{unless}
 use Rattle.sheet.proofs.Reading.{read-slot, read-none}
 use Rattle.sheet.proofs.ReadOnSlot.{read-on-slot}
 use Rattle.sheet.proofs.SlotCalls.{keeps}
+use Rattle.sheet.proofs.InUse.{step-14, step-misused}
+use Rattle.sheet.proofs.AfterCalls.{slot-kept}
 use Rattle.sheet.proofs.Frame.{refused-unchanged, step-length, same-reply, left-alike}
 use Rattle.sheet.proofs.Runs.{Run, call, before, after, reply}
 use Rattle.sheet.proofs.Told.{told}
@@ -42,6 +47,12 @@ run-alike r q e a =
     (o .0 ≡ p .0) × LeftAlike (call r) (o .0) (before r) (o .1) (p .1)) (sym other)
     (same-reply (call r) (before r) (before q) a, left-alike (call r) (before r) (before q) a))
 
+-- another clinic's slot
+pub run-foreign : (r : Run) (c : Clinic) → By c (call r) → (k : ℕ) → (c .0 ≡ clinicOf (slotAt (before r) k) → ⊥) →
+    slotAt (after r) k ≡ slotAt (before r) k
+run-foreign r c b k f =
+    by-step (λ o. slotAt (o .1) k ≡ slotAt (before r) k) r (slot-kept c (call r) b (before r) k f)
+
 -- a run of a call on a slot
 module _ (r : Run) (c : Clinic) (k : SlotNumber) where
   pub run-frame : (q : SlotCall) → call r ≡ call-on c k q → (i : ℕ) → Outside (k .0) i →
@@ -51,6 +62,21 @@ module _ (r : Run) (c : Clinic) (k : SlotNumber) where
       (rw e
       (unless edit-reply (λ o. getD (o .1) i 0 ≡ getD (before r) i 0) (faultOf q) (before r) _ (λ p. refl)
       (on-frame (refusal q) (before r) (c .0) (k .0) (inSlot q) (keeps q .whole) i h)))
+
+  -- answer 14, and an in-use word above 1
+  module _ (q : SlotCall) (e : call r ≡ call-on c k q) where
+    pub run-14 : (numberOf (reply r) ≡ 14)
+        ↔ ((faultOf q ≡ none) × Reached (before r) (c .0) (k .0) × (inUseOf (slotAt (before r) (k .0)) ≡ 0))
+    run-14 =
+        by-step
+        (λ o. (numberOf (o .0) ≡ 14)
+        ↔ ((faultOf q ≡ none) × Reached (before r) (c .0) (k .0) × (inUseOf (slotAt (before r) (k .0)) ≡ 0)))
+        r (rw e (step-14 (before r) c k q))
+
+    pub run-misused : faultOf q ≡ none → Reached (before r) (c .0) (k .0) → 1 < inUseOf (slotAt (before r) (k .0)) →
+        numberOf (reply r) ≡ 4
+    run-misused f h u =
+        by-step (λ o. numberOf (o .0) ≡ 4) r (rw e (step-misused (before r) c k q f h u))
 
   -- of a read
   module _ (e : call r ≡ call-on c k reads) where

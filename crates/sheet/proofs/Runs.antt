@@ -11,11 +11,11 @@ use denote.Triple.Clauses.{AtExit}
 use borrow.Fn.Kinds.{PK, RK, Out, Dens, resT, endedOf}
 use Rattle.rules.specs.Records.{recordWords}
 use Rattle.rules.specs.Sheet.{countOf, slotAt}
-use Rattle.rules.specs.Refusals.{says, EditAnswer, editSays}
+use Rattle.rules.specs.Refusals.{Answer, says, EditAnswer, editSays}
 use Rattle.leaflet.specs.Contents.{Piece, reading}
 use Rattle.leaflet.specs.Imported.{importedRecords}
-use Rattle.sheet.specs.Book.{Call, call-set-up, call-on, edits, imports, reads}
-use Rattle.sheet.specs.Book.{Reply, set-up-reply, edit-reply, read-reply}
+use Rattle.sheet.specs.Book.{Call, call-set-up, call-take, call-on, edits, imports, reads, gives-back}
+use Rattle.sheet.specs.Book.{Reply, answer-reply, edit-reply, read-reply}
 use Rattle.sheet.specs.declared.Clinic.{Clinic}
 use Rattle.sheet.specs.declared.SlotNumber.{SlotNumber}
 use Rattle.sheet.proofs.edit.Kinds as edit-kinds
@@ -24,6 +24,10 @@ use Rattle.sheet.proofs.importing.import.Kinds as import-kinds
 use Rattle.sheet.proofs.importing.import.Reads as import-reads
 use Rattle.sheet.proofs.setting.set_up.Kinds as set-up-kinds
 use Rattle.sheet.proofs.setting.set_up.Reads as set-up-reads
+use Rattle.sheet.proofs.taking.take.Kinds as take-kinds
+use Rattle.sheet.proofs.taking.take.Reads as take-reads
+use Rattle.sheet.proofs.taking.give_back.Kinds as give-back-kinds
+use Rattle.sheet.proofs.taking.give_back.Reads as give-back-reads
 use Rattle.sheet.proofs.read.Kinds as read-kinds
 use Rattle.sheet.proofs.read.Reads as read-reads
 use Rattle.sheet.proofs.read_part.Kinds as part-kinds
@@ -49,6 +53,12 @@ EditRun = Ran 2 edit-kinds.ps edit-kinds.r edit-reads.Learnt
 
 abbrev pub ImportRun : Type 0
 ImportRun = Ran 2 import-kinds.ps import-kinds.r import-reads.Learnt
+
+abbrev pub TakeRun : Type 0
+TakeRun = Ran 1 take-kinds.ps take-kinds.r take-reads.Learnt
+
+abbrev pub GiveBackRun : Type 0
+GiveBackRun = Ran 1 give-back-kinds.ps give-back-kinds.r give-back-reads.Learnt
 
 abbrev pub SliceRun : Type 0
 SliceRun = Ran 1 read-kinds.ps read-kinds.r read-reads.Learnt
@@ -119,6 +129,37 @@ pub record EditOf (u : ImportRun) (ps : List Piece) (e : EditRun) : Type 0 where
   pub all : deleted e ≡ countOf (importBefore u)
   pub words : inserted e ≡ recordWords (importedRecords (size u) (reading ps))
 
+-- A take's run: who took, and what was answered
+module _ (u : TakeRun) where
+  abbrev pub taker : Clinic
+  taker = u .args .1 .0
+
+  abbrev pub takeReply : Answer
+  takeReply = says (u .result .number) (u .result .place)
+
+-- A giving back's run, likewise
+module _ (u : GiveBackRun) where
+  abbrev pub giver : Clinic
+  giver = u .args .1 .0
+
+  abbrev pub givenSlot : SlotNumber
+  givenSlot = u .args .1 .1 .0
+
+  abbrev pub giveReply : Answer
+  giveReply = says (u .result .number) (u .result .place)
+
+  abbrev pub givenBefore : List ℕ
+  givenBefore = slotAt (now (u .args .0)) (givenSlot .0)
+
+  abbrev pub givenAfter : List ℕ
+  givenAfter = slotAt (now (u .exit .0)) (givenSlot .0)
+
+-- an edit beside a giving back: on the same sheet, by the same caller and on the same slot
+pub record Beside (u : GiveBackRun) (e : EditRun) : Type 0 where
+  pub same-sheet : now (e .args .0) ≡ now (u .args .0)
+  pub same-caller : caller e ≡ giver u
+  pub same-slot : slot e ≡ givenSlot u
+
 -- two calls one after the other, in either order, of which one finds the sheet p and leaves it q, and the other finds
 -- r and leaves s: the sheet before both, and after both
 pub data InTurn (p q r s : List ℕ) : List ℕ → List ℕ → Type 0 where
@@ -151,6 +192,8 @@ pub data Run : Type 0 where
   set-up-run : SetUpRun → Run
   edit-run : EditRun → Run
   import-run : ImportRun → Run
+  take-run : TakeRun → Run
+  give-back-run : GiveBackRun → Run
   read-run : ReadRun → Run
   read-part-run : ReadPartRun → Run
 
@@ -159,6 +202,8 @@ abbrev pub call : Run → Call
 call (set-up-run u) = call-set-up (now (u .args .1 .0)) (now (u .args .1 .1 .0)) (now (u .args .1 .1 .1 .0))
 call (edit-run u) = call-on (caller u) (slot u) (edits (place u) (deleted u) (inserted u))
 call (import-run u) = call-on (importer u) (importSlot u) (imports (size u) (text u))
+call (take-run u) = call-take (taker u)
+call (give-back-run u) = call-on (giver u) (givenSlot u) gives-back
 call (read-run u) = call-on (u .part .args .1 .0) (u .part .args .1 .1 .0) reads
 call (read-part-run u) = call-on (u .part .args .1 .0) (u .part .args .1 .1 .0) reads
 
@@ -166,6 +211,8 @@ abbrev pub before : Run → List ℕ
 before (set-up-run u) = now (u .args .0)
 before (edit-run u) = now (u .args .0)
 before (import-run u) = now (u .args .0)
+before (take-run u) = now (u .args .0)
+before (give-back-run u) = now (u .args .0)
 before (read-run u) = u .together .found
 before (read-part-run u) = u .together .found
 
@@ -173,6 +220,8 @@ abbrev pub after : Run → List ℕ
 after (set-up-run u) = now (u .exit .0)
 after (edit-run u) = now (u .exit .0)
 after (import-run u) = now (u .exit .0)
+after (take-run u) = now (u .exit .0)
+after (give-back-run u) = now (u .exit .0)
 after (read-run u) = u .together .left
 after (read-part-run u) = u .together .left
 
@@ -181,12 +230,22 @@ abbrev pub between : ℕ → ℕ → List ℕ → List ℕ
 between start end ws = take (end - start) (drop start ws)
 
 abbrev pub reply : Run → Reply
-reply (set-up-run u) = set-up-reply (says (u .result .number) (u .result .place))
+reply (set-up-run u) = answer-reply (says (u .result .number) (u .result .place))
 reply (edit-run u) = edit-reply (answer u)
 reply (import-run u) = edit-reply (importAnswer u)
+reply (take-run u) = answer-reply (takeReply u)
+reply (give-back-run u) = answer-reply (giveReply u)
 reply (read-run u) = read-reply (u .number .result) (now (u .part .result))
 reply (read-part-run u) =
     read-reply (u .number .result) (between (u .part .result .start) (u .part .result .end) (u .together .left))
+
+-- two calls in either order on one sheet: r, then q; and p, a run of q's call, then t, a run of r's
+pub record EitherOrder (r q p t : Run) : Type 0 where
+  pub same-sheet : before p ≡ before r
+  pub q-after-r : before q ≡ after r
+  pub t-after-p : before t ≡ after p
+  pub p-as-q : call p ≡ call q
+  pub t-as-r : call t ≡ call r
 
 -- Sequences of runs -------------------------------------------------------------------------------------------------
 

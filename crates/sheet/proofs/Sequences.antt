@@ -8,11 +8,11 @@ use lib.ListN.{length}
 use borrow.Author.Tests.{eq-eqb, ne-eqb}
 use Rattle.rules.specs.Refusals.{Outcome, setUpAnswer, setUp}
 use Rattle.rules.specs.Meanings.{All, all-none, all-more}
-use Rattle.sheet.specs.Book.{Call, call-set-up, call-on, Reply, set-up-reply, edit-reply, numberOf, faultOf}
-use Rattle.sheet.specs.Book.{step, runSheet, runBook}
-use Rattle.sheet.specs.Book.{BookSlot, bookSetUp, bookStep, encode, inWords}
+use Rattle.sheet.specs.Book.{Call, call-set-up, call-take, call-on, Reply, answer-reply, edit-reply, numberOf}
+use Rattle.sheet.specs.Book.{faultOf, step, runSheet, runBook}
+use Rattle.sheet.specs.Book.{BookSlot, bookSetUp, bookOwn, bookTake, bookStep, encode, inWords}
 use Rattle.sheet.proofs.Faulted.{unless}
-use Rattle.sheet.proofs.NotGiven.{set-up-not-4}
+use Rattle.sheet.proofs.NotGiven.{set-up-not-4, take-not-4}
 use Rattle.sheet.proofs.Encode.{WellFormed, encode-empty}
 use Rattle.sheet.proofs.Steps.{agrees}
 use Rattle.sheet.proofs.Stays.{stays, new-book, on-book-not-4}
@@ -57,7 +57,7 @@ module _ (n : ℕ) (cs ms xs : List ℕ) (z : setUpAnswer n cs ms xs .number ≡
 
 -- a refused set-up changes nothing in the book
 pub refused-book : (n : ℕ) (cs ms xs : List ℕ) (b : List BookSlot) → (setUpAnswer n cs ms xs .number ≡ 0 → ⊥) →
-    bookStep n (call-set-up cs ms xs) b ≡ (set-up-reply (setUpAnswer n cs ms xs), b)
+    bookStep n (call-set-up cs ms xs) b ≡ (answer-reply (setUpAnswer n cs ms xs), b)
 unfolding bookSetUp
 refused-book n cs ms xs b z = rw (ne-eqb _ _ z)
 
@@ -85,8 +85,9 @@ restarts n before cs ms xs after b z =
 -- Answer 4 ----------------------------------------------------------------------------------------------------------
 
 book-not-4 : (n : ℕ) (c : Call) (b : List BookSlot) → numberOf (bookStep n c b .0) ≡ 4 → ⊥
-unfolding bookSetUp
+unfolding bookSetUp bookTake
 book-not-4 n (call-set-up cs ms xs) b = set-up-not-4 n cs ms xs
+book-not-4 n (call-take c) b = take-not-4 n (c .0) (bookOwn n (c .0) b)
 book-not-4 n (call-on c k q) b =
     unless edit-reply (λ o. numberOf (o .0) ≡ 4 → ⊥) (faultOf q) b _ (λ p e. omega (arith, e))
     (on-book-not-4 q n (c .0) (k .0) b)

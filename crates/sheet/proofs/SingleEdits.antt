@@ -2,13 +2,14 @@
 -- leaves that. Assumes nothing.
 use mathlib.Core.Path.{_≡_, sym, ap, _∙_}
 use Prim.Native.Nat.{ℕ, _<_}
+use native.Mathlib.Omega.{arith}
 use mathlib.Core.Bool.{true, false, not, _||_}
 use mathlib.Core.List.{List, []}
 use lib.Dec.{eqb}
 use lib.ListN.{length}
 use borrow.Author.Tests.{eq-eqb, ne-eqb}
 use Rattle.rules.specs.Records.{recordWords}
-use Rattle.rules.specs.Sheet.{clinicOf, lengthOk, slotCount, slotAt}
+use Rattle.rules.specs.Sheet.{clinicOf, inUseOf, lengthOk, slotCount, slotAt}
 use Rattle.rules.specs.Refusals.{Answer, EditAnswer, reporting, Outcome, judged, called}
 use Rattle.sheet.specs.Book.{SlotCall, edits, call-on, Reply, edit-reply, numberOf, refusal, inSlot, step}
 use Rattle.sheet.specs.Book.{BookSlot, withRecords, bookRedone, freshSlot, encodeSlot}
@@ -40,12 +41,13 @@ module _ (s : BookSlot) (h : Sound s) where
   -- the edit call, on a sheet with a fresh slot j
   module _ (vs : List ℕ) (c : Clinic) (j : SlotNumber) (ok : lengthOk (length vs) ≡ true)
       (within : j .0 < slotCount vs) where
-    entered-by : slotAt vs (j .0) ≡ freshSlot s → c .0 ≡ s .setting .clinic → (c .0 ≡ 0 → ⊥) →
+    entered-by : slotAt vs (j .0) ≡ freshSlot s → c .0 ≡ s .setting .clinic → (c .0 ≡ 0 → ⊥) → s .setting .inUse ≡ 1 →
         called vs (c .0) (j .0) .number ≡ 0
-    entered-by e own known =
+    entered-by e own known taken =
         let entry : eqb (c .0) 0 || not (eqb (c .0) (clinicOf (slotAt vs (j .0)))) ≡ false
         = rw (e, ne-eqb _ _ known, eq-eqb (c .0) (s .setting .clinic) own) in
-        same-number (called-0 vs (c .0) (j .0) ok within entry)
+        let used : inUseOf (slotAt vs (j .0)) ≡ 0 → ⊥ = rw e (λ z. omega (arith, z, taken)) in
+        same-number (called-0 vs (c .0) (j .0) ok within entry used)
 
     call-edits : slotAt vs (j .0) ≡ freshSlot s → called vs (c .0) (j .0) .number ≡ 0 →
         let o = step (call-on c j all) vs in
@@ -63,11 +65,13 @@ module _ (s : BookSlot) (h : Sound s) where
   by-single-edit =
       record {
         slot = sym (single-is s h);
+        in-use-or-not = h .use-limits;
         unassigned = h .unassigned;
-        by-run = λ r c j e own known ok within f.
+        unused = h .unused;
+        by-run = λ r c j e own known taken ok within f.
             let t : _≡_ {A = Outcome Reply} (reply r, after r) (step (call-on c j all) (before r))
             = rw e at (told r) in
-            let y = call-edits (before r) c j ok within f (entered-by (before r) c j ok within f own known) in (
+            let y = call-edits (before r) c j ok within f (entered-by (before r) c j ok within f own known taken) in (
               ap (λ (o : Outcome Reply). numberOf (o .0)) t ∙ y .0,
               ap (λ (o : Outcome Reply). slotAt (o .1) (j .0)) t ∙ y .1,
             );

@@ -1,9 +1,9 @@
 -- What an edit does to a slot of any words: that it keeps the slot's length, that a refused one changes nothing, what
 -- an accepted one leaves, and what its answer says of the new records. Assumes nothing.
 use mathlib.Core.Path.{_≡_, refl, sym, ap, _∙_}
-use Prim.Native.Nat.{ℕ, _+_, _*_, _/_, _%_, _≤_}
+use Prim.Native.Nat.{ℕ, _+_, _*_, _/_, _%_, _≤_, _<_}
 use native.Mathlib.Omega.{arith}
-use mathlib.Core.Bool.{true}
+use mathlib.Core.Bool.{true, false}
 use mathlib.Core.List.{List}
 use mathlib.Core.Logic.{inl, inr}
 use lib.Dec.{ltb, eqb}
@@ -14,17 +14,24 @@ use Rattle.rules.specs.Basics.{firstOf}
 use Rattle.rules.specs.Records.{Rec, records, recordWords}
 use Rattle.rules.specs.Groups.{units}
 use Rattle.rules.specs.Adjustment.{compose}
-use Rattle.rules.specs.Sheet.{slotWords, measureOf, indentOf, settingOf, countOf, recordsOf}
-use Rattle.rules.specs.Refusals.{Answer, EditAnswer, editSays, Outcome, judged, edited, editRedone, slotRows}
+use Rattle.rules.specs.Sheet.{Setting, slotWords, clinicOf, measureOf, indentOf, settingOf, countOf, inUseOf}
+use Rattle.rules.specs.Sheet.{recordsOf}
+use Rattle.rules.specs.Refusals.{Answer, EditAnswer, editSays, Outcome, judged, sound, edited, editRedone, slotRows}
 use Rattle.rules.specs.Refusals.{editSlot}
 use Rattle.rules.proofs.Facts.{tested}
 use Rattle.rules.proofs.Words.{length-records, words-records}
 use Rattle.rules.proofs.Judged.{judged-0}
+use Rattle.slot.proofs.Stored.{sound-in-use}
 use Rattle.sheet.specs.Meanings.{Spliced}
 use Rattle.sheet.proofs.Tables.{same-number, lacking, passed, under-table}
 use Rattle.sheet.proofs.Lengths.{or-right}
-use Rattle.rules.proofs.SlotWords.{length-slot, slot-records}
+use Rattle.rules.proofs.SlotWords.{length-slot, slot-setting, slot-records}
 use Rattle.sheet.proofs.Slots.{splice-few}
+
+-- an in-use word above 1 counts under 4
+pub use-unsound : (s : List ℕ) → 1 < inUseOf s → sound s ≡ false
+use-unsound s u =
+    elim (tested (sound s)) [ inl e ↦ absurd (omega (arith, sound-in-use s e)) | inr e ↦ e ]
 
 module _ (s : List ℕ) (place deleted : ℕ) (inserted : List ℕ) where
   abbrev done : Outcome EditAnswer
@@ -45,9 +52,10 @@ module _ (s : List ℕ) (place deleted : ℕ) (inserted : List ℕ) where
   abbrev rows : Answer
   rows = firstOf (slotRows s place deleted inserted) (judged (measureOf s) (indentOf s) new)
 
-  -- where the rows 4 to 7 do not apply, the stretch is within the records, the inserted words are whole records, few
-  -- enough, and the answer is the new records' own
+  -- where the rows 4 to 7 do not apply, the in-use word is at most 1, the stretch is within the records, the inserted
+  -- words are whole records, few enough, and the answer is the new records' own
   pub record Judged : Type 0 where
+    pub used : inUseOf s ≤ 1
     pub fits : place + deleted ≤ length (recordsOf s)
     pub whole : recordWords (records inserted 0 (length inserted / 6)) ≡ inserted
     pub few : length new ≤ 256
@@ -65,6 +73,7 @@ module _ (s : List ℕ) (place deleted : ℕ) (inserted : List ℕ) where
       let c : place + deleted ≤ countOf s = ltb-false _ _ (or-right (ltb (countOf s) place) _ (p .1 .0)) in
       let k : countOf s ≡ length (recordsOf s) = sym (length-records (drop 8 s) 0 (countOf s)) in
       record {
+        used = sound-in-use s (not-false _ (p .0));
         fits = omega (arith, k);
         whole = whole-records (eqb-true _ _ (not-false _ (p .1 .1 .0)));
         few = splice-few (recordsOf s) place deleted inserted (rw k at (p .1 .0)) (rw k at (p .1 .1 .1 .0));
@@ -98,6 +107,21 @@ module _ (s : List ℕ) (place deleted : ℕ) (inserted : List ℕ) where
   pub slot-refused : (done .0 .number ≡ 0 → ⊥) → done .1 ≡ s
   unfolding editSlot
   slot-refused z = rw (ne-eqb _ _ z)
+
+  pub slot-unsound : sound s ≡ false → done .0 .number ≡ 4
+  unfolding editSlot slotRows
+  slot-unsound e = rw e
+
+  pub slot-misused : 1 < inUseOf s → done .0 .number ≡ 4
+  slot-misused u = slot-unsound (use-unsound s u)
+
+  pub slot-clinic : clinicOf (done .1) ≡ clinicOf s
+  unfolding editSlot
+  slot-clinic =
+      elim (tested (eqb (rows .number) 0)) [
+        | inl e ↦ rw e (ap (λ (t : Setting). t .clinic) (slot-setting (settingOf s) new))
+        | inr e ↦ rw e
+      ]
 
   pub slot-reports-none : (done .0 .number ≡ 0 → ⊥) → done .0 .redone ≡ 0
   unfolding editSlot

@@ -23,7 +23,8 @@ use Rattle.rules.proofs.Words.{length-records}
 use Rattle.sheet.proofs.Tables.{passed}
 use Rattle.sheet.proofs.Lengths.{or-right}
 use Rattle.rules.proofs.SlotWords.{length-record-words, records-again}
-use Rattle.rules.proofs.SlotWords.{slot-setting, slot-measure, slot-indent, slot-count, slot-records, slot-fresh}
+use Rattle.rules.proofs.SlotWords.{slot-setting, slot-measure, slot-indent, slot-in-use, slot-count, slot-records}
+use Rattle.rules.proofs.SlotWords.{slot-fresh}
 use Rattle.sheet.proofs.Encode.{Sound, sound-none}
 
 -- The splice --------------------------------------------------------------------------------------------------------
@@ -58,18 +59,20 @@ abbrev pub bookAfter : ℕ → ℕ → List ℕ → BookSlot → BookSlot
 bookAfter place deleted inserted s =
     cond (eqb (bookAnswer place deleted inserted s .number) 0) (bookEdited place deleted inserted s) s
 
--- an edit of an assigned slot leaves a sound slot
+-- an edit of an assigned slot in use leaves a sound slot
 pub edited-sound : (place deleted : ℕ) (inserted : List ℕ) (s : BookSlot) → Sound s → (s .setting .clinic ≡ 0 → ⊥) →
-    Sound (bookAfter place deleted inserted s)
+    (s .setting .inUse ≡ 0 → ⊥) → Sound (bookAfter place deleted inserted s)
 unfolding bookEdited bookEditRows
-edited-sound place deleted inserted s h assigned =
+edited-sound place deleted inserted s h assigned used =
     elim (tested (eqb (bookAnswer place deleted inserted s .number) 0)) [
       | inl e ↦
           let p = passed 0 (bookEditRows place deleted inserted s) _ refl (eqb-true _ _ e) in
           rw e
           (record {
             limits = h .limits;
+            use-limits = h .use-limits;
             unassigned = λ c. absurd (assigned c);
+            unused = λ u. absurd (used u);
             few = splice-few (s .records) place deleted inserted (p .0 .0) (p .0 .1 .1 .0);
             right = p .1;
           })
@@ -83,12 +86,22 @@ module _ (s : BookSlot) (h : Sound s) where
   words = encodeSlot s
 
   -- answer 4 does not apply
-  sound-words : sound words ≡ true
+  pub sound-words : sound words ≡ true
   unfolding sound
   sound-words =
       let t = s .setting in
       let l = and-right (leb (t .clinic) 65535) (limitsOk (t .measure) (t .indent)) (h .limits) in
-      rw (slot-records, slot-measure, slot-indent, slot-count, l, le-leb _ _ (h .few), eq-eqb _ _ (h .right))
+      rw (
+        slot-records,
+        slot-measure,
+        slot-indent,
+        slot-count,
+        slot-in-use,
+        l,
+        le-leb _ _ (h .few),
+        le-leb _ _ (h .use-limits),
+        eq-eqb _ _ (h .right),
+      )
 
   module _ (place deleted : ℕ) (inserted : List ℕ) where
     same-answer : firstOf (slotRows words place deleted inserted)
@@ -148,7 +161,7 @@ module _ (s : BookSlot) (h : Sound s) where
   pub single-edit : editSlot (freshSlot s) 0 0 all ≡ (reporting answer (bookRedone 0 0 all empty), encodeSlot s)
   single-edit =
       ap (λ w. editSlot w 0 0 all) (sym (slot-fresh (s .setting)))
-      ∙ slot-edits empty (sound-none (s .setting) (h .limits)) 0 0 all
+      ∙ slot-edits empty (sound-none (s .setting) (h .limits) (h .use-limits)) 0 0 all
       ∙ rw (answer-all, eq-eqb _ _ (h .right), edited-all)
 
 -- so a slot's words do not show its history

@@ -11,15 +11,18 @@ use lib.Seq.{set-getD}
 use borrow.Author.Tests.{eqb-true, ne-eqb}
 use Rattle.rules.specs.Refusals.{says, setUpAnswer}
 use Rattle.rules.proofs.Facts.{tested}
-use Rattle.sheet.specs.Book.{SlotCall, Call, call-set-up, call-on, Reply, edit-reply, numberOf, refusal, faultOf}
-use Rattle.sheet.specs.Book.{BookSlot, bookAt, emptySlots, bookSetUp, bookCallRows, bookCalled}
+use Rattle.rules.specs.Pool.{takeAnswer}
+use Rattle.sheet.specs.Book.{SlotCall, Call, call-set-up, call-take, call-on, Reply, edit-reply, numberOf}
+use Rattle.sheet.specs.Book.{refusal, faultOf}
+use Rattle.sheet.specs.Book.{BookSlot, used, bookAt, emptySlots, bookSetUp, bookOwn, bookTake, bookCallRows}
+use Rattle.sheet.specs.Book.{bookCalled}
 use Rattle.sheet.specs.Book.{onBookSlot, inBook, bookStep}
 use Rattle.sheet.proofs.Tables.{passed}
 use Rattle.sheet.proofs.Lists.{accepted, accepted-limits}
-use Rattle.sheet.proofs.Encode.{Sound, WellFormed, all-set, length-empty, sound-empty}
+use Rattle.sheet.proofs.Encode.{Sound, WellFormed, all-at, all-set, length-empty, sound-empty}
 use Rattle.sheet.proofs.Faulted.{unless}
 use Rattle.sheet.proofs.SlotCalls.{keeps}
-use Rattle.sheet.proofs.Steps.{here, assigned}
+use Rattle.sheet.proofs.Steps.{granted-within, here, assigned, taken}
 
 -- an accepted set-up starts a well-formed book, whatever there was before
 pub new-book : (n : ℕ) (cs ms xs : List ℕ) → setUpAnswer n cs ms xs .number ≡ 0 →
@@ -53,7 +56,32 @@ module _ (n : ℕ) (b : List BookSlot) (g : WellFormed n b) where
       elim (tested (eqb (bookCalled n caller k b .number) 0)) [
         | inl e ↦
             let z = eqb-true _ _ e in
-            rw e (with-sound k _ (keeps q .sound (bookAt b k) (here n b g caller k z) (assigned n b g caller k z)))
+            rw e (with-sound k _ (keeps q .sound (bookAt b k) (here n b g caller k z) (assigned n b g caller k z)
+            (taken n b g caller k z)))
+        | inr e ↦ rw e g
+      ]
+
+  used-sound : (s : BookSlot) → Sound s → Sound (used s 1)
+  used-sound s h =
+      record {
+        limits = h .limits;
+        use-limits = omega arith;
+        unassigned = h .unassigned;
+        unused = λ z. absurd (omega (arith, z));
+        few = h .few;
+        right = h .right;
+      }
+
+  take-stays : (caller : ℕ) → WellFormed n (bookTake n caller b .1)
+  unfolding bookTake
+  take-stays caller =
+      let a = takeAnswer n caller (bookOwn n caller b) in
+      elim (tested (eqb (a .number) 0)) [
+        | inl e ↦
+            rw e
+            (with-sound (a .place) _
+            (used-sound (bookAt b (a .place))
+            (all-at (g .sound) (a .place) _ (granted-within n b g caller (eqb-true _ _ e)))))
         | inr e ↦ rw e g
       ]
 
@@ -64,6 +92,7 @@ module _ (n : ℕ) (b : List BookSlot) (g : WellFormed n b) where
         | inl e ↦ rw e (new-book n cs ms xs (eqb-true _ _ e))
         | inr e ↦ rw e g
       ]
+  stays (call-take c) = take-stays (c .0)
   stays (call-on c k q) =
       unless edit-reply (λ o. WellFormed n (o .1)) (faultOf q) b _ (λ p. g) (on-stays q (c .0) (k .0))
 
@@ -95,8 +124,9 @@ module _ (q : SlotCall) (n caller k : ℕ) (b : List BookSlot) where
 
 pub book-refused : (n : ℕ) (c : Call) (b : List BookSlot) → (numberOf (bookStep n c b .0) ≡ 0 → ⊥) →
     bookStep n c b .1 ≡ b
-unfolding bookSetUp
+unfolding bookSetUp bookTake
 book-refused n (call-set-up cs ms xs) b = λ z. rw (ne-eqb _ _ z)
+book-refused n (call-take c) b = λ z. rw (ne-eqb _ _ z)
 book-refused n (call-on c k q) b =
     unless edit-reply (λ o. (numberOf (o .0) ≡ 0 → ⊥) → o .1 ≡ b) (faultOf q) b _ (λ p z. refl)
     (on-book-unchanged q n (c .0) (k .0) b)

@@ -5,18 +5,24 @@ use native.Mathlib.Omega.{arith}
 use mathlib.Core.List.{List}
 use mathlib.Core.Logic.{inl, inr}
 use lib.Dec.{eqb}
-use lib.ListN.{length}
+use lib.ListN.{length, set}
 use borrow.Author.Tests.{eqb-true}
-use Rattle.rules.specs.Sheet.{slotAt}
+use Rattle.rules.specs.Sheet.{Setting, inUseOf, slotAt, withSlot}
 use Rattle.rules.specs.Refusals.{Answer, Outcome, callRows, called, onSlot, setUpAnswer, setUp}
+use Rattle.rules.specs.Pool.{ownSlots, takeAnswer, useAt, taking}
 use Rattle.rules.proofs.Facts.{tested}
-use Rattle.sheet.specs.Book.{SlotCall, Call, call-set-up, call-on, set-up-reply, refusal, faultOf, inSlot, step}
-use Rattle.sheet.specs.Book.{BookSlot, bookAt, bookSetUp, bookCallRows, bookCalled, onBookSlot, inBook, bookStep}
-use Rattle.sheet.specs.Book.{encodeSlot, encode, inWords}
+use Rattle.rules.proofs.SlotWords.{slot-with-use}
+use Rattle.sheet.specs.Book.{SlotCall, Call, call-set-up, call-take, call-on, answer-reply, refusal, faultOf}
+use Rattle.sheet.specs.Book.{inSlot, step}
+use Rattle.sheet.specs.Book.{BookSlot, used, bookAt, bookSetUp, bookOwn, bookTake, bookCallRows, bookCalled}
+use Rattle.sheet.specs.Book.{onBookSlot, inBook, bookStep, encodeSlot, encode, inWords}
 use Rattle.sheet.proofs.Tables.{same-number}
 use Rattle.sheet.proofs.Entry.{entered}
+use Rattle.sheet.proofs.Parts.{set-in-slot}
+use Rattle.rules.proofs.OwnSlots.{own-same}
+use Rattle.sheet.proofs.Granting.{settings, took, granted-lowest}
 use Rattle.sheet.proofs.Encode.{Sound, WellFormed, all-at, length-encode, slot-of, with-slot}
-use Rattle.sheet.proofs.Encode.{clinic-of, encode-empty}
+use Rattle.sheet.proofs.Encode.{setting-of, encode-empty}
 use Rattle.sheet.proofs.Faulted.{unless-in-words}
 use Rattle.sheet.proofs.SlotCalls.{keeps}
 
@@ -35,6 +41,55 @@ module _ (n : ℕ) (b : List BookSlot) (g : WellFormed n b) where
       rw (exact, encode-empty cs ms xs 0 (n / 2824))
       (ap (λ w. (a, w)) (elim (tested (eqb (a .number) 0)) [ inl e ↦ rw e | inr e ↦ rw e ]))
 
+  -- Take
+  module _ (caller : ℕ) where
+    same-own : ownSlots (encode b) caller ≡ bookOwn n caller b
+    unfolding ownSlots bookOwn
+    same-own =
+        let t = setting-of b (g .sound) in
+        rw exact
+        (own-same (λ k. bookAt b k .setting) (settings (encode b)) caller (λ k. ap (λ (s : Setting). s .clinic) (t k))
+        (λ k e. ap (λ (s : Setting). s .inUse) (t k)) 0 (n / 2824))
+
+    abbrev answer : Answer
+    answer = takeAnswer n caller (bookOwn n caller b)
+
+    same-answer : taking (encode b) caller .0 ≡ answer
+    unfolding taking
+    same-answer = rw (same-own, exact)
+
+    -- a slot that is granted is there, and was not in use
+    pub granted-within : answer .number ≡ 0 → answer .place < length b
+    granted-within z =
+        let l = granted-lowest (took (encode b) caller) (same-number same-answer ∙ z) .1 .free .within in
+        omega (arith, l, exact, slots, ap (λ (a : Answer). a .place) same-answer)
+
+    pub granted-free : answer .number ≡ 0 → bookAt b (answer .place) .setting .inUse ≡ 0
+    granted-free z =
+        let f = granted-lowest (took (encode b) caller) (same-number same-answer ∙ z) .1 .free .free in
+        ap (λ (s : Setting). s .inUse) (sym (setting-of b (g .sound) (answer .place)))
+        ∙ ap (λ k. inUseOf (slotAt (encode b) k)) (sym (ap (λ (a : Answer). a .place) same-answer))
+        ∙ f
+
+    -- its word becomes 1, in the book and in the book's words
+    used-words : (k : ℕ) → k < length b → set (encode b) (useAt k) 1 ≡ encode (set b k (used (bookAt b k) 1))
+    used-words k h =
+        let s = bookAt b k in
+        set-in-slot (encode b) k 5 1 (omega (arith, exact, slots)) (omega arith)
+        ∙ ap (λ w. withSlot (encode b) k (set w 5 1)) (slot-of b (g .sound) k h)
+        ∙ ap (withSlot (encode b) k) (slot-with-use (s .setting) (s .records) 1)
+        ∙ with-slot b (g .sound) k h (used s 1)
+
+    takes : taking (encode b) caller ≡ inWords (bookTake n caller b)
+    unfolding taking bookTake
+    takes =
+        rw (same-own, exact)
+        (ap (λ w. (answer, w))
+        (elim (tested (eqb (answer .number) 0)) [
+          | inl e ↦ rw (e, used-words (answer .place) (granted-within (eqb-true _ _ e)))
+          | inr e ↦ rw e
+        ]))
+
   -- A call on a slot
   module _ (caller k : ℕ) where
     abbrev first : Answer
@@ -42,7 +97,9 @@ module _ (n : ℕ) (b : List BookSlot) (g : WellFormed n b) where
 
     same-called : called (encode b) caller k ≡ first
     unfolding called callRows bookCallRows
-    same-called = rw (clinic-of b (g .sound) k, exact)
+    same-called =
+        let t = setting-of b (g .sound) k in
+        rw (ap (λ (s : Setting). s .clinic) t, ap (λ (s : Setting). s .inUse) t, exact)
 
     in-book : first .number ≡ 0 → k < length b
     in-book z =
@@ -55,7 +112,12 @@ module _ (n : ℕ) (b : List BookSlot) (g : WellFormed n b) where
     pub assigned : first .number ≡ 0 → slot .setting .clinic ≡ 0 → ⊥
     assigned z c =
         let e = entered (encode b) caller k (same-number same-called ∙ z) in
-        e .known (e .own ∙ clinic-of b (g .sound) k ∙ c)
+        e .known (e .own ∙ ap (λ (s : Setting). s .clinic) (setting-of b (g .sound) k) ∙ c)
+
+    pub taken : first .number ≡ 0 → slot .setting .inUse ≡ 0 → ⊥
+    taken z u =
+        let e = entered (encode b) caller k (same-number same-called ∙ z) in
+        e .used (ap (λ (s : Setting). s .inUse) (setting-of b (g .sound) k) ∙ u)
 
     pub here : first .number ≡ 0 → Sound slot
     here z = all-at (g .sound) k _ (in-book z)
@@ -76,5 +138,6 @@ module _ (n : ℕ) (b : List BookSlot) (g : WellFormed n b) where
 
   -- each call answers what the book answers, and leaves the book's words
   pub agrees : (c : Call) → step c (encode b) ≡ inWords (bookStep n c b)
-  agrees (call-set-up cs ms xs) = ap (λ (o : Outcome Answer). (set-up-reply (o .0), o .1)) (set-ups cs ms xs)
+  agrees (call-set-up cs ms xs) = ap (λ (o : Outcome Answer). (answer-reply (o .0), o .1)) (set-ups cs ms xs)
+  agrees (call-take c) = ap (λ (o : Outcome Answer). (answer-reply (o .0), o .1)) (takes (c .0))
   agrees (call-on c k q) = unless-in-words (faultOf q) b _ _ (on-slots (c .0) (k .0) q)

@@ -5,10 +5,11 @@ use mathlib.Core.List.{List, [], _∷_, map}
 use denote.Ref.{now}
 use Rattle.rules.specs.Refusals.{Answer, EditAnswer, asEdit, Outcome, editSlot, onSlot, edit}
 use Rattle.rules.specs.Refusals.{readNumber, readPart, readWords}
+use Rattle.rules.specs.Pool.{giveBackSlot, givingBack}
 use Rattle.leaflet.specs.Reader.{faultIn, wordsIn}
 use Rattle.sheet.specs.Import.{replaceSlot, unlessFault, import}
-use Rattle.sheet.specs.Book.{edits, imports, reads, refusal, inSlot, step, runSheet}
-use Rattle.sheet.specs.Book.{Reply, set-up-reply, edit-reply, read-reply}
+use Rattle.sheet.specs.Book.{edits, imports, reads, gives-back, refusal, inSlot, step, runSheet}
+use Rattle.sheet.specs.Book.{Reply, answer-reply, edit-reply, read-reply}
 use Rattle.sheet.specs.declared.Clinic.{Clinic}
 use Rattle.sheet.specs.declared.SlotNumber.{SlotNumber}
 use Rattle.sheet.proofs.OnSlot.{on-reply}
@@ -18,7 +19,9 @@ use Rattle.sheet.proofs.ReadOnSlot.{read-on-slot}
 use Rattle.sheet.proofs.Runs.{caller, slot, place, deleted, inserted}
 use Rattle.sheet.proofs.Runs.{InTurn, the-one-first, the-other-first, ReadRun, ReadPartRun}
 use Rattle.sheet.proofs.Runs.{importer, importSlot, size, text}
-use Rattle.sheet.proofs.Runs.{Run, set-up-run, edit-run, import-run, read-run, read-part-run}
+use Rattle.sheet.proofs.Runs.{giver, givenSlot}
+use Rattle.sheet.proofs.Runs.{Run, set-up-run, edit-run, import-run, take-run, give-back-run, read-run}
+use Rattle.sheet.proofs.Runs.{read-part-run}
 use Rattle.sheet.proofs.Runs.{call, before, after, between, reply, Chained, final}
 
 -- Reads -------------------------------------------------------------------------------------------------------------
@@ -82,14 +85,25 @@ import-step ws caller k size text =
     unless-told edit-reply (faultIn text) ws (onSlot asEdit ws caller k replace)
     ∙ ap (unlessFault edit-reply (faultIn text) ws) (on-reply edit-reply asEdit ws caller k replace)
 
+-- and a giving back's
+give-back-step : (ws : List ℕ) (caller k : ℕ) →
+    let o = givingBack ws caller k in
+    _≡_ {A = Outcome Reply} (answer-reply (o .0), o .1) (onSlot (refusal gives-back) ws caller k (inSlot gives-back))
+unfolding givingBack
+give-back-step ws caller k = on-reply answer-reply (λ a. a) ws caller k giveBackSlot
+
 pub told : (r : Run) → _≡_ {A = Outcome Reply} (reply r, after r) (step (call r) (before r))
-told (set-up-run u) = ap (λ (o : Outcome Answer). (set-up-reply (o .0), o .1)) (u .learnt)
+told (set-up-run u) = ap (λ (o : Outcome Answer). (answer-reply (o .0), o .1)) (u .learnt)
 told (edit-run u) =
     ap (λ (o : Outcome EditAnswer). (edit-reply (o .0), o .1)) (u .learnt)
     ∙ edit-step (now (u .args .0)) (caller u .0) (slot u .0) (place u) (deleted u) (inserted u)
 told (import-run u) =
     ap (λ (o : Outcome EditAnswer). (edit-reply (o .0), o .1)) (u .learnt)
     ∙ import-step (now (u .args .0)) (importer u .0) (importSlot u .0) (size u) (text u)
+told (take-run u) = ap (λ (o : Outcome Answer). (answer-reply (o .0), o .1)) (u .learnt)
+told (give-back-run u) =
+    ap (λ (o : Outcome Answer). (answer-reply (o .0), o .1)) (u .learnt)
+    ∙ give-back-step (now (u .args .0)) (giver u .0) (givenSlot u .0)
 told (read-run u) = slice-told u
 told (read-part-run u) = part-told u
 

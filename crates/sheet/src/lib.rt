@@ -1,10 +1,13 @@
 // The calls on a sheet, and ruby place.
 mod importing;
 mod setting;
+mod taking;
 
 pub use crate::importing::ImportAnswer;
 pub use crate::importing::import;
 pub use crate::setting::set_up;
+pub use crate::taking::give_back;
+pub use crate::taking::take;
 pub use rules::RubyPlace;
 pub use rules::ruby_place;
 pub use slot::Answer;
@@ -18,7 +21,7 @@ ghost use Rattle.rules.specs.Sheet.{lengthOk};
 ghost use Rattle.rules.specs.Refusals.{says, editSays, readNumber, readStart, readLength, readPart, readWords};
 ghost use Rattle.rules.specs.Refusals.{called as calledOf, edit as editOf};
 
-// Two kinds of number: edit's and read's two cannot be exchanged.
+// Two kinds of number, so that no call's two can be exchanged.
 #[repr(C)]
 pub struct Clinic(pub u32);
 
@@ -29,15 +32,16 @@ pub struct SlotNumber(pub u32);
 fn slot_count(len: usize) -> usize
     ensures { λ p. ⌜ p ≡ cond (lengthOk len) (len / 2824) 0 ⌝ }
 {
-    // the limits first: they leave a division of small numbers
     if (len < 2824) | (180736 < len) {
         return 0;
     }
-    let p = len / 2824;
+    // 23,764 / 2^26 is a little more than 1 / 2,824: of whole slots it gives their number, with no division
+    let p = len * 23764 / 67108864;
     if 2824 * p == len { p } else { 0 }
 }
 
-// Answers 1, 2 and 3, with which every call on a slot begins, or 0. Of the slot it looks at the clinic alone.
+// Answers 1, 2, 3 and 14, with which every call on a slot begins, or 0. Of the slot it looks at the clinic and, where
+// that is the caller, at the in-use word.
 fn called(sheet: &[u32], caller: Clinic, slot: SlotNumber) -> Answer
     ensures { λ r. ⌜ says (r .number) (r .place) ≡ calledOf (now (sheet .entry)) (caller .0) (slot .0) ⌝ }
 {
@@ -58,6 +62,12 @@ fn called(sheet: &[u32], caller: Clinic, slot: SlotNumber) -> Answer
     if (caller.0 == 0) | (caller.0 != sheet[first]) {
         return Answer {
             number: 3,
+            place: 0,
+        };
+    }
+    if sheet[first + 5] == 0 {
+        return Answer {
+            number: 14,
             place: 0,
         };
     }
@@ -108,6 +118,10 @@ pub fn read_number(sheet: &[u32], caller: Clinic, slot: SlotNumber) -> u32
         return refusal.number;
     }
     let head = 2824 * slot.0 as usize;
+    // the in-use word first, which the rows before have at hand
+    if 1 < sheet[head + 5] {
+        return 4;
+    }
     if 256 < sheet[head + 4] { 4 } else { 0 }
 }
 
@@ -126,13 +140,15 @@ pub fn read_part(sheet: &[u32], caller: Clinic, slot: SlotNumber) -> Part
     let refusal = called(sheet, caller, slot);
     if refusal.number == 0 {
         let head = 2824 * slot.0 as usize;
-        let count = sheet[head + 4];
-        if count <= 256 {
-            let first = head + 2056;
-            return Part {
-                start: first,
-                end: first + 3 * count as usize,
-            };
+        if sheet[head + 5] <= 1 {
+            let count = sheet[head + 4];
+            if count <= 256 {
+                let first = head + 2056;
+                return Part {
+                    start: first,
+                    end: first + 3 * count as usize,
+                };
+            }
         }
     }
     Part { start: 0, end: 0 }

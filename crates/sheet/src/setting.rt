@@ -2,6 +2,7 @@
 use crate::Answer;
 use crate::slot_count;
 use rules::slot_limits_ok;
+use slot::clear;
 ghost use mathlib.Core.Path.{_≡_};
 ghost use Prim.Native.Nat.{_*_, _≤_};
 ghost use lib.ListN.{length};
@@ -47,17 +48,6 @@ fn set_up_answer(len: usize, clinics: &[u32], measures: &[u32], indents: &[u32])
         };
     }
     limits_answer(clinics, measures, indents)
-}
-
-// Writes 0 to every word.
-fn clear(words: &mut [u32])
-    ensures { λ _. ⌜ now (words .exit) ≡ zeros (length (now (words .entry))) ⌝ }
-{
-    let mut i = 0;
-    while i < words.len() {
-        words[i] = 0;
-        i += 1;
-    }
 }
 
 // Makes a slot of zeros a fresh slot.

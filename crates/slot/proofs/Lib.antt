@@ -1,4 +1,5 @@
--- Laws of a slot's words and of an edit's outcome.
+-- Laws of a slot's words, of an edit's outcome, and of a giving back's.
+pub mod Cleared
 pub mod Pieces
 pub mod Spliced
 pub mod Stored
@@ -7,3 +8,4 @@ pub mod Replaced
 pub mod Edited
 pub mod Report
 pub mod Counted
+pub mod Given

@@ -17,7 +17,7 @@ pub to-end : (w : List ℕ) (k : ℕ) → take (length w - k) (drop k w) ≡ dro
 to-end w k = take-all (length w - k) (drop k w) (omega (arith, length-drop k w))
 
 -- a list of at least eight has eight first
-eight : (w : List ℕ) → 8 ≤ length w →
+pub eight : (w : List ℕ) → 8 ≤ length w →
     w
     ≡ getD w 0 0 ∷ getD w 1 0 ∷ getD w 2 0 ∷ getD w 3 0 ∷ getD w 4 0 ∷ getD w 5 0 ∷ getD w 6 0 ∷ getD w 7 0 ∷ drop 8 w
 eight w h =
@@ -37,8 +37,8 @@ eight w h =
 
 -- stores into the head
 pub headed : (w : List ℕ) (n k : ℕ) → 8 ≤ length w →
-    set (set (set (set (set w 3 n) 4 k) 5 0) 6 0) 7 0 ≡ headOf w n k ++ drop 8 w
-headed w n k h = ap (λ l. set (set (set (set (set l 3 n) 4 k) 5 0) 6 0) 7 0) (eight w h)
+    set (set (set (set w 3 n) 4 k) 6 0) 7 0 ≡ headOf w n k ++ drop 8 w
+headed w n k h = ap (λ l. set (set (set (set l 3 n) 4 k) 6 0) 7 0) (eight w h)
 
 -- the three pastes of a splice
 pub splices : (list ws ins l₁ l₂ l₃ : List ℕ) (b e : ℕ) → b ≤ e → e ≤ length ws →

@@ -10,7 +10,7 @@ use lib.Seq.{length-take-le}
 use borrow.Author.Tests.{eqb-true, leb-true, ltb-true, le-leb, lt-leb, ne-eqb}
 use Rattle.rules.specs.Basics.{within}
 use Rattle.rules.specs.Records.{records}
-use Rattle.rules.specs.Sheet.{measureOf, indentOf, countOf, recordsOf, limitsOk}
+use Rattle.rules.specs.Sheet.{measureOf, indentOf, countOf, inUseOf, recordsOf, limitsOk}
 use Rattle.rules.specs.Refusals.{says, judged, sound}
 use Rattle.rules.specs.Redone.{start}
 use Rattle.rules.specs.Stable.{ruledLines}
@@ -64,36 +64,51 @@ module _ (s : List ℕ) (len : length s ≡ 2824) (few : countOf s ≤ 256) wher
 
 -- answer 4, test by test
 module _ (s : List ℕ) where
-  pub limits-off : limitsOk (measureOf s) (indentOf s) ≡ false → sound s ≡ false
+  abbrev limits : Bool
+  limits = limitsOk (measureOf s) (indentOf s)
+
+  abbrev few : Bool
+  few = leb (countOf s) 256
+
+  abbrev used : Bool
+  used = leb (inUseOf s) 1
+
+  pub limits-off : limits ≡ false → sound s ≡ false
   unfolding sound
   limits-off e = rw e
 
-  pub count-off : limitsOk (measureOf s) (indentOf s) ≡ true → 256 < countOf s → sound s ≡ false
+  pub count-off : limits ≡ true → 256 < countOf s → sound s ≡ false
   unfolding sound
   count-off e h = rw (e, lt-leb (countOf s) 256 h)
 
-  pub records-tell : limitsOk (measureOf s) (indentOf s) ≡ true → countOf s ≤ 256 →
+  pub use-off : limits ≡ true → countOf s ≤ 256 → 1 < inUseOf s → sound s ≡ false
+  unfolding sound
+  use-off e h u = rw (e, le-leb (countOf s) 256 h, lt-leb (inUseOf s) 1 u)
+
+  pub records-tell : limits ≡ true → countOf s ≤ 256 → inUseOf s ≤ 1 →
       sound s ≡ eqb (judged (measureOf s) (indentOf s) (recordsOf s) .number) 0
   unfolding sound
-  records-tell e h = rw (e, le-leb (countOf s) 256 h)
+  records-tell e h u = rw (e, le-leb (countOf s) 256 h, le-leb (inUseOf s) 1 u)
 
   -- what a sound slot has
-  pub sound-limits : sound s ≡ true → limitsOk (measureOf s) (indentOf s) ≡ true
+  limits-and-few : sound s ≡ true → limits && few ≡ true
   unfolding sound
-  sound-limits e =
-      and-left (limitsOk (measureOf s) (indentOf s)) (leb (countOf s) 256)
-      (and-left (limitsOk (measureOf s) (indentOf s) && leb (countOf s) 256) _ e)
+  limits-and-few e = and-left (limits && few) used (and-left (limits && few && used) _ e)
+
+  pub sound-limits : sound s ≡ true → limits ≡ true
+  sound-limits e = and-left limits few (limits-and-few e)
 
   pub sound-count : sound s ≡ true → countOf s ≤ 256
+  sound-count e = leb-true (countOf s) 256 (and-right limits few (limits-and-few e))
+
+  pub sound-in-use : sound s ≡ true → inUseOf s ≤ 1
   unfolding sound
-  sound-count e =
-      leb-true (countOf s) 256 (and-right (limitsOk (measureOf s) (indentOf s)) (leb (countOf s) 256)
-      (and-left (limitsOk (measureOf s) (indentOf s) && leb (countOf s) 256) _ e))
+  sound-in-use e = leb-true (inUseOf s) 1 (and-right (limits && few) used (and-left (limits && few && used) _ e))
 
   pub sound-listed : sound s ≡ true → All IsListed (recordsOf s)
   unfolding sound notListed
   sound-listed e =
-      let z = eqb-true _ 0 (and-right (limitsOk (measureOf s) (indentOf s) && leb (countOf s) 256) _ e) in
+      let z = eqb-true _ 0 (and-right (limits && few && used) _ e) in
       none-fails isListed 0 (recordsOf s) (judged-passes (measureOf s) (indentOf s) (recordsOf s) 0 refl z .listed)
 
 -- what is told of a slot's lines

@@ -32,7 +32,7 @@ fn refusal(number: u32, place: u32) -> EditAnswer
     }
 }
 
-fn damaged() -> Answer
+pub(crate) fn damaged() -> Answer
     ensures { λ r. ⌜ (r .number ≡ 4) × (r .place ≡ 0) ⌝ }
 {
     Answer {
@@ -43,7 +43,7 @@ fn damaged() -> Answer
 
 // Answer 4, or 0 and how many lines the rules give the slot's records: then the first record of each stands in
 // `starts`. The stored line words are not looked at, since on a sheet of any words they may be anything.
-fn stored_lines(words: &[u32], starts: &mut [u32; 256]) -> Answer
+pub(crate) fn stored_lines(words: &[u32], starts: &mut [u32; 256]) -> Answer
     requires { ⌜ length (now words) ≡ 2824 ⌝ }
     ensures { λ r. ⌜ StoredLines (now (words .entry)) (now (starts .exit)) (r .number) (r .place) ⌝ }
 {
@@ -54,6 +54,9 @@ fn stored_lines(words: &[u32], starts: &mut [u32; 256]) -> Answer
         return damaged();
     }
     if 256 < count {
+        return damaged();
+    }
+    if 1 < words[5] {
         return damaged();
     }
     let end = 8 + 6 * count as usize;

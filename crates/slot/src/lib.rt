@@ -1,8 +1,11 @@
 // One slot of a sheet: its 2,824 words as a lent slice.
 mod edit;
+mod giving;
 mod redone;
 mod words;
 
 pub use compose::Answer;
 pub use edit::EditAnswer;
 pub use edit::edit_slot;
+pub use giving::give_back_slot;
+pub use words::clear;

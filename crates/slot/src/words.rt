@@ -1,10 +1,22 @@
-// Words copied, a record list spliced, and every word of a slot written.
+// Words cleared and copied, a record list spliced, and every word of a slot written.
 ghost use mathlib.Core.Path.{_≡_};
 ghost use mathlib.Core.List.{_++_};
 ghost use Prim.Native.Nat.{_+_, _-_, _≤_};
 ghost use lib.ListN.{length, drop};
 ghost use lib.Seq.{paste};
+ghost use Rattle.rules.specs.Basics.{zeros};
 ghost use Rattle.slot.specs.Slot.{headOf, splicedInto};
+
+// Writes 0 to every word.
+pub fn clear(words: &mut [u32])
+    ensures { λ _. ⌜ now (words .exit) ≡ zeros (length (now (words .entry))) ⌝ }
+{
+    let mut i = 0;
+    while i < words.len() {
+        words[i] = 0;
+        i += 1;
+    }
+}
 
 // Copies all of `src` into `dst` from index `at`.
 fn copy_in(dst: &mut [u32], at: usize, src: &[u32])
@@ -37,19 +49,18 @@ pub(crate) fn splice(
     copy_in(list, before + inserted.len(), &records[after..]);
 }
 
-// Writes the head of a slot after clinic, measure and indent.
+// Writes the head of a slot but for the words that an edit keeps: clinic, measure, indent and in use.
 fn put_head(words: &mut [u32], count: u32, lines: u32)
     requires { ⌜ 8 ≤ length (now words) ⌝ }
     ensures { λ _. ⌜ now (words .exit) ≡ headOf (now (words .entry)) count lines ++ drop 8 (now (words .entry)) ⌝ }
 {
     words[3] = count;
     words[4] = lines;
-    words[5] = 0;
     words[6] = 0;
     words[7] = 0;
 }
 
-// Writes every word of a slot but clinic, measure and indent.
+// Writes every word of a slot but clinic, measure, indent and in use.
 pub(crate) fn write_slot(
     words: &mut [u32],
     count: u32,

@@ -7,9 +7,8 @@ use lib.ListN.{length}
 use borrow.Author.Needs.{needs}
 use denote.Ref.{now}
 use Rattle.rules.specs.Sheet.{lengthOk}
-use Rattle.sheet.proofs.Entry.{clinic-at}
 use Rattle.sheet.proofs.Lengths.{without-slots, with-slots, whole}
-use Rattle.sheet.proofs.Entry.{called-0, called-1, called-2, called-3}
+use Rattle.sheet.proofs.Entry.{clinic-at, in-use-at, called-0, called-1, called-2, called-3, called-14}
 use Rattle.sheet.proofs.called.Statement.{statement}
 use Rattle.sheet.proofs.called.Tie as tie
 
@@ -41,10 +40,29 @@ returns-3 c =
     let d = c .before .before .before .before in
     sym (called-3 _ _ _ (counted (d .before .before)) (slot-within d) (rw clinic-at (c .if3 .taken)))
 
+-- nor answer 3
+abbrev owned : tie.Else3 → tie.Else2
+owned c = c .before .before .before .before
+
+shared-slice-read-if4 : tie.Need-shared-slice-read-if4
+shared-slice-read-if4 c =
+    let e = owned (c .before) in
+    let d = e .before .before in
+    omega (arith, whole (size (d .before .before .before)) (counted d) .exact, e .if2 .left)
+
 returns-4 : tie.Need-returns-4
 returns-4 c =
-    let d = c .before .before .before .before in
-    sym (called-0 _ _ _ (counted (d .before .before)) (slot-within d) (rw clinic-at (c .if3 .left)))
+    let e = c .before .before in
+    let d = owned e in
+    sym (called-14 _ _ _ (counted (d .before .before)) (slot-within d) (rw clinic-at (e .if3 .left))
+    (rw in-use-at (c .if4 .taken)))
+
+returns-5 : tie.Need-returns-5
+returns-5 c =
+    let e = c .before .before in
+    let d = owned e in
+    sym (called-0 _ _ _ (counted (d .before .before)) (slot-within d) (rw clinic-at (e .if3 .left))
+    (rw in-use-at (c .if4 .left)))
 
 pub called-spec : {M : Type 1} → statement M
 called-spec =
@@ -58,4 +76,8 @@ called-spec =
     (λ c. search needs)
     (λ c. search needs)
     returns-3
-    returns-4)
+    (λ c. search needs)
+    (λ c. search needs)
+    shared-slice-read-if4
+    returns-4
+    returns-5)

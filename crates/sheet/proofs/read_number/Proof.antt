@@ -2,16 +2,15 @@
 use mathlib.Core.Path.{_≡_, refl, sym, _∙_}
 use native.Mathlib.Omega.{arith}
 use borrow.Author.Needs.{needs}
-use borrow.Author.Tests.{lt-ltb, le-ltb}
 use denote.Ref.{now}
 use Rattle.rules.specs.Refusals.{called}
 use Rattle.sheet.proofs.Tables.{same-number}
 use Rattle.sheet.proofs.Entry.{entered}
-use Rattle.sheet.proofs.Reading.{number-refused, number-entered}
+use Rattle.sheet.proofs.Reading.{number-refused, number-under, number-over, number-misused}
 use Rattle.sheet.proofs.read_number.Statement.{statement}
 use Rattle.sheet.proofs.read_number.Tie as tie
 
--- where the rows 1 to 3 do not apply
+-- where the rows 1 to 3 and 14 do not apply
 zero : (c : tie.Else1) →
     let a = c .before .before .before .before .args in
     called (now (a .sheet)) (a .caller .0) (a .slot .0) .number ≡ 0
@@ -39,10 +38,24 @@ shared-slice-read-if2 : tie.Need-shared-slice-read-if2
 shared-slice-read-if2 c = let e = entered _ _ _ (zero (c .before .before)) in omega arith
 
 returns-2 : tie.Need-returns-2
-returns-2 c = (sym (number-entered _ _ _ (zero (c .before .before .before)) ∙ rw (lt-ltb _ _ (c .if2 .taken))), refl)
+returns-2 c = (sym (number-misused _ _ _ (zero (c .before .before .before)) (c .if2 .taken)), refl)
+
+-- where the in-use word is 1
+abbrev used : tie.Else2 → tie.Else1
+used c = c .before .before .before
+
+shared-slice-read-if3 : tie.Need-shared-slice-read-if3
+shared-slice-read-if3 c = let e = entered _ _ _ (zero (used (c .before))) in omega arith
 
 returns-3 : tie.Need-returns-3
-returns-3 c = (sym (number-entered _ _ _ (zero (c .before .before .before)) ∙ rw (le-ltb _ _ (c .if2 .left))), refl)
+returns-3 c =
+    let d = c .before .before in
+    (sym (number-over _ _ _ (zero (used d)) (c .if3 .taken)), refl)
+
+returns-4 : tie.Need-returns-4
+returns-4 c =
+    let d = c .before .before in
+    (sym (number-under _ _ _ (zero (used d)) (c .if3 .left) (d .if2 .left)), refl)
 
 pub read-number-spec : {M : Type 1} → statement M
 read-number-spec =
@@ -56,4 +69,8 @@ read-number-spec =
     mul-if2
     shared-slice-read-if2
     returns-2
-    returns-3)
+    (λ c. search needs)
+    (λ c. search needs)
+    shared-slice-read-if3
+    returns-3
+    returns-4)

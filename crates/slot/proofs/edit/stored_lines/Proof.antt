@@ -2,15 +2,16 @@
 -- Assumes nothing.
 use mathlib.Core.Path.{_≡_, ap, sym, _∙_}
 use mathlib.Core.Bool.{true}
+use lib.Dec.{eqb}
 use denote.Ref.{now}
 use borrow.Author.Tests.{not-true, not-false}
 use Rattle.rules.specs.Groups.{units}
 use Rattle.rules.specs.Adjustment.{compose}
-use Rattle.rules.specs.Sheet.{measureOf, indentOf, limitsOk}
-use Rattle.rules.specs.Refusals.{judged}
+use Rattle.rules.specs.Sheet.{measureOf, indentOf, recordsOf, limitsOk}
+use Rattle.rules.specs.Refusals.{judged, sound}
 use Rattle.rules.specs.Redone.{start}
-use Rattle.slot.proofs.Stored.{fitting, stored-size, stored-paragraph, limits-off, count-off, records-tell}
-use Rattle.slot.proofs.Stored.{stored-damaged, refused-sound, stored-sound}
+use Rattle.slot.proofs.Stored.{fitting, stored-size, stored-paragraph, limits-off, count-off, use-off}
+use Rattle.slot.proofs.Stored.{records-tell, stored-damaged, refused-sound, stored-sound}
 use borrow.Author.Needs.{needs}
 use Rattle.slot.proofs.edit.stored_lines.Statement.{statement}
 use Rattle.slot.proofs.edit.stored_lines.Tie as tie
@@ -35,35 +36,53 @@ returns-2 c =
     let w = now (entry (d .before) .args .words) in
     stored-damaged w _ _ _ (count-off w (limits-at (d .before)) (d .if2 .taken)) (c .damaged2 .ensures)
 
+returns-3 : tie.Need-returns-3
+returns-3 c =
+    let d = c .before in
+    let e = d .before .before in
+    let w = now (entry (e .before) .args .words) in
+    stored-damaged w _ _ _ (use-off w (limits-at (e .before)) (e .if2 .left) (d .if3 .taken)) (c .damaged3 .ensures)
+
+-- past the tests of measure and indent, of the count and of the in-use word
+abbrev head-passed : tie.Else3 → tie.Else2
+head-passed c = c .before .before
+
+records-tell-at : (c : tie.Else3) →
+    let w = now (entry (head-passed c .before) .args .words) in
+    sound w ≡ eqb (judged (measureOf w) (indentOf w) (recordsOf w) .number) 0
+records-tell-at c =
+    let d = head-passed c in
+    records-tell (now (entry (d .before) .args .words)) (limits-at (d .before)) (d .if2 .left) (c .if3 .left)
+
 check-requires : tie.Need-check-requires
 check-requires c κs =
-    let d = c .before .before in
+    let d = head-passed (c .before .before) in
     let s = entry (d .before) in
     fitting _ _ _ (stored-size (now (s .args .words)) (s .pre) (d .if2 .left)) (limits-at (d .before))
 
-returns-3 : tie.Need-returns-3
-returns-3 c =
-    let k = c .before .before .before in
-    let d = k .before .before .before in
-    let s = entry (d .before) in
-    let w = now (s .args .words) in
-    let t = records-tell w (limits-at (d .before)) (d .if2 .left) in
-    let a = ap (judged (measureOf w) (indentOf w)) (sym (stored-paragraph w (s .pre) (d .if2 .left)))
-    ∙ k .check .ensures .answer in
-    stored-damaged w _ _ _ (refused-sound w _ _ t a (c .before .if3 .taken)) (c .damaged3 .ensures)
-
 returns-4 : tie.Need-returns-4
 returns-4 c =
+    let k = c .before .before .before in
+    let h = k .before .before .before in
+    let d = head-passed h in
+    let s = entry (d .before) in
+    let w = now (s .args .words) in
+    let a = ap (judged (measureOf w) (indentOf w)) (sym (stored-paragraph w (s .pre) (d .if2 .left)))
+    ∙ k .check .ensures .answer in
+    stored-damaged w _ _ _ (refused-sound w _ _ (records-tell-at h) a (c .before .if4 .taken)) (c .damaged4 .ensures)
+
+returns-5 : tie.Need-returns-5
+returns-5 c =
     let k = c .before .before in
-    let d = k .before .before .before in
+    let h = k .before .before .before in
+    let d = head-passed h in
     let s = entry (d .before) in
     let w = now (s .args .words) in
     let p = stored-paragraph w (s .pre) (d .if2 .left) in
-    let t = records-tell w (limits-at (d .before)) (d .if2 .left) in
-    let z = c .if3 .left in
-    stored-sound w _ _ _ t (ap (judged (measureOf w) (indentOf w)) (sym p) ∙ k .check .ensures .answer) z
-    (λ j h.
-    k .check .ensures .first z j h ∙ ap (λ rs. start j (compose (measureOf w) (indentOf w) (units rs))) p)
+    let z = c .if4 .left in
+    stored-sound w _ _ _ (records-tell-at h) (ap (judged (measureOf w) (indentOf w)) (sym p) ∙ k .check .ensures .answer) z
+    (λ j l.
+    k .check .ensures .first z j l ∙ ap (λ rs. start j (compose (measureOf w) (indentOf w) (units rs))) p)
 
 pub stored-lines-spec : {M : Type 1} → statement M
 stored-lines-spec =
@@ -78,6 +97,9 @@ stored-lines-spec =
     (λ c κs. search needs)
     returns-2
     (λ c. search needs)
+    (λ c κs. search needs)
+    returns-3
+    (λ c. search needs)
     (λ c. search needs)
     (λ c. search needs)
     (λ c. search needs)
@@ -85,5 +107,5 @@ stored-lines-spec =
     (λ c. search needs)
     check-requires
     (λ c κs. search needs)
-    returns-3
-    returns-4)
+    returns-4
+    returns-5)

@@ -13,9 +13,6 @@ slice-write-words-2 c = simp length-set (omega arith)
 slice-write-words-3 : tie.Need-slice-write-words-3
 slice-write-words-3 c = simp length-set (omega arith)
 
-slice-write-words-4 : tie.Need-slice-write-words-4
-slice-write-words-4 c = simp length-set (omega arith)
-
 returns : tie.Need-returns
 returns c = headed (now (c .args .words)) (c .args .count) (c .args .lines) (c .pre)
 
@@ -26,7 +23,6 @@ put-head-spec =
     (λ c. search needs)
     slice-write-words-2
     slice-write-words-3
-    slice-write-words-4
     (λ c. search needs)
     (λ c. search needs)
     returns)

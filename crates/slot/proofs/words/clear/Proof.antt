@@ -1,11 +1,11 @@
--- `sheet::setting::clear` meets its contract. Assumes nothing.
+-- `slot::words::clear` meets its contract. Assumes nothing.
 use Prim.Native.Nat.{_-_}
 use native.Mathlib.Omega.{arith}
 use borrow.Author.Needs.{needs}
 use lib.ListN.{length}
-use Rattle.sheet.proofs.Fresh.{Cleared, clear-none, clear-more, clear-all}
-use Rattle.sheet.proofs.setting.clear.Statement.{statement}
-use Rattle.sheet.proofs.setting.clear.Tie as tie
+use Rattle.slot.proofs.Cleared.{Cleared, clear-none, clear-more, clear-all}
+use Rattle.slot.proofs.words.clear.Statement.{statement}
+use Rattle.slot.proofs.words.clear.Tie as tie
 
 abbrev Inv-loop : tie.InvT-loop
 Inv-loop words₀ i₀ words i = Cleared words₀ words i

@@ -1,0 +1,26 @@
+// Giving back one slot: document 02, request 07.
+ghost use mathlib.Core.Path.{_≡_};
+ghost use lib.ListN.{length};
+ghost use Rattle.rules.specs.Refusals.{says};
+ghost use Rattle.rules.specs.Pool.{giveBackSlot};
+use crate::edit::damaged;
+use crate::edit::stored_lines;
+use crate::words::clear;
+use compose::Answer;
+
+// Answer 4, as an edit gives it, or 0 and every word zeroed but clinic, measure and indent.
+pub fn give_back_slot(words: &mut [u32]) -> Answer
+    requires { ⌜ length (now words) ≡ 2824 ⌝ }
+    ensures { λ r. ⌜ (says (r .number) (r .place), now (words .exit)) ≡ giveBackSlot (now (words .entry)) ⌝ }
+{
+    let mut starts = [0u32; 256];
+    let stored = stored_lines(words, &mut starts);
+    if stored.number != 0 {
+        return damaged();
+    }
+    clear(&mut words[3..]);
+    Answer {
+        number: 0,
+        place: 0,
+    }
+}
