@@ -44,6 +44,8 @@ fn print_reason(number: u32) {
         10 => say(b"a run without a break is wider than the measure"),
         11 => say(b"a clinic, measure or indent is out of limits"),
         12 => say(b"a character is not in the published list of its class"),
+        13 => say(b"the clinic has no free slot"),
+        14 => say(b"the slot is not in use; its clinic must take it first"),
         17 => say(b"the text is no leaflet from this byte on"),
         _ => say(b"there is no such number"),
     }
@@ -64,12 +66,34 @@ fn print_refused_at(number: u32, place: usize) {
     say(b".\n");
 }
 
-// What set-up answered: how many slots there are, or a refusal and its place.
-pub(crate) fn print_set_up(answer: Answer) {
+// The calls whose answer is a number and a place.
+pub(crate) enum Call {
+    SetUp,
+    Take,
+    GiveBack,
+}
+
+// What the place of an accepted call says: how many slots there are, which one is taken, or nothing.
+fn print_accepted(call: Call, place: u32) {
+    match call {
+        Call::SetUp => {
+            say(b"  accepted: ");
+            print_number(place);
+            say(b" slots.\n");
+        }
+        Call::Take => {
+            say(b"  accepted: slot ");
+            print_number(place);
+            say(b".\n");
+        }
+        Call::GiveBack => say(b"  accepted.\n"),
+    }
+}
+
+// What such a call answered: what its place says, or a refusal and its place.
+pub(crate) fn print_answer(call: Call, answer: Answer) {
     if answer.number == 0 {
-        say(b"  accepted: ");
-        print_number(answer.place);
-        say(b" slots.\n");
+        print_accepted(call, answer.place);
     } else {
         print_refused_at(answer.number, answer.place as usize);
     }
