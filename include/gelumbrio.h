@@ -1,11 +1,11 @@
 /* Gelumbrio: a Japanese line composer on a shared sheet of 32-bit words.
  *
  * A sheet is P slots of GELUMBRIO_SLOT_WORDS words each, P from 1 to 64. A slot holds, in order:
- *   head, 8 words: clinic, measure, indent, record count, line count, three zeros;
+ *   head, 8 words: clinic, measure, indent, record count, line count, in use (0 or 1), two zeros;
  *   256 records of 6 words: code point, class, size, advance, group, ruby count;
  *   256 places of 2 words: x, line number;
  *   256 lines of 3 words: first record, end x, kind (1 flush, 2 short, 3 final).
- * A program should lend a sheet of at most 5 slots. That is advice: up to 64 are taken.
+ * A program should lend a sheet of at most 5 slots. That is advice: up to 64 are accepted.
  *
  * Every call takes any words, bytes, numbers and lengths, and ends. A refused call changes no word of the sheet. Each
  * slice passes as a pointer, then its length: in words, and in bytes for a text. With length 0 nothing is read through
@@ -30,13 +30,17 @@ typedef struct SlotNumber { uint32_t number; } SlotNumber; /* from 0 */
 
 /* The answers, in the order they are checked. The place is that of the answer:
  *  17  import: the text is no leaflet                                 a byte offset, as told below
- *   0  accepted                                                       the line count (set-up: P)
+ *   0  accepted                                                       the line count (set-up: P, take: the slot's
+ *                                                                     number, give back: 0)
  *   1  the sheet's length is not 2,824 P for a P from 1 to 64,
  *      or a set-up list is not P long                                 0
  *   2  the slot number is P or more                                   0
  *   3  the caller is 0, or is not the slot's clinic                   0
+ *  13  take: the caller has no slot whose in-use word is 0            0
+ *  14  the slot is not in use: its in-use word is 0                   0
  *   4  the slot's measure or indent is out of limits, its count is
- *      over 256, or its stored records fall under 8, 12, 9 or 10      0
+ *      over 256, its in-use word is above 1, or its stored records
+ *      fall under 8, 12, 9 or 10                                      0
  *   5  the place exceeds the count, or the deletion passes the end    the count
  *   6  the inserted words are not a multiple of 6                     0
  *   7  more than 256 records would result                             0
@@ -45,7 +49,8 @@ typedef struct SlotNumber { uint32_t number; } SlotNumber; /* from 0 */
  *   9  a group rule is broken                                         the first such record
  *  10  no breaking exists                                             the first record of the first too wide run
  *  11  set-up: a clinic, measure or indent out of limits              the first such slot
- * Read's number is 0, 1, 2 or 3, then 4 where the stored line count exceeds 256. Ruby place's is 0 or 8. */
+ * Take's number is 0, 1, 3 for caller 0, or 13; give back's is 0, 1, 2, 3, 14 or 4. Read's number is 0, 1, 2, 3 or 14,
+ * then 4 where the stored line count exceeds 256 or the in-use word 1. Ruby place's is 0 or 8. */
 typedef struct Answer { uint32_t number, place; } Answer;
 
 /* Edit also answers how many lines were composed anew, `redone`; refused, 0. They are the new lines from f up to r:
@@ -65,16 +70,27 @@ typedef struct ImportAnswer { uint32_t number, redone; size_t place; } ImportAns
 /* A part of the sheet: the words from start up to end; 0, 0 where the read is refused. */
 typedef struct Part { size_t start, end; } Part;
 
-/* Empties every slot and gives slot i clinics[i], measures[i], indents[i]. */
+/* Empties every slot and gives slot i clinics[i], measures[i], indents[i]. No slot is in use afterwards. */
 Answer gelumbrio_set_up(uint32_t *sheet, size_t sheet_length, const uint32_t *clinics, size_t clinics_length,
                         const uint32_t *measures, size_t measures_length, const uint32_t *indents,
                         size_t indents_length);
 
-/* Takes `deleted` records out at `place`, puts the inserted ones in there, and composes the slot. */
+/* Takes the caller's lowest-numbered slot whose in-use word is 0, and answers its number. The word becomes 1; no other
+ * word changes, and of each slot none but clinic and in-use word is looked at. Which slot is granted does not depend
+ * on other clinics' slots. A slot is edited, imported into, read and given back while it is in use; otherwise these
+ * answer 14. A sheet that was filled before there was this call has in-use words of 0: once a slot is taken, its text
+ * is there again. */
+Answer gelumbrio_take(uint32_t *sheet, size_t sheet_length, Clinic caller);
+
+/* Gives a slot back: every word of it but clinic, measure and indent becomes 0, and it can be taken again. */
+Answer gelumbrio_give_back(uint32_t *sheet, size_t sheet_length, Clinic caller, SlotNumber slot);
+
+/* Takes `deleted` records out at `place`, puts the inserted ones in there, and composes the slot, which stays in
+ * use. */
 EditAnswer gelumbrio_edit(uint32_t *sheet, size_t sheet_length, Clinic caller, SlotNumber slot, uint32_t place,
                           uint32_t deleted, const uint32_t *inserted, size_t inserted_length);
 
-/* Reads a leaflet, puts its records in place of all that the slot holds, and composes the slot.
+/* Reads a leaflet, puts its records in place of all that the slot holds, and composes the slot, which stays in use.
  *   A leaflet is UTF-8 text, plain characters and ruby elements in any order. An element is <ruby>, a base text,
  * <rt>, the ruby text, </rt>, </ruby>; or with <rp>, any text or none, </rp> before the <rt> and again after the </rt>.
  * Tags are written just so. Neither base nor ruby text is empty, and nothing else stands in an element. Inside rt and

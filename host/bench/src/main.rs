@@ -5,6 +5,7 @@
 //! the median over rounds; in a round each cell is timed once, so that a busy moment falls on all. Calls of several
 //! milliseconds are left out of some rounds.
 
+mod pool;
 mod programs;
 mod report;
 mod texts;

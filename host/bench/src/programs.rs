@@ -12,12 +12,14 @@ type Import = fn(&mut [u32], u32, u32, u32, &[u8]) -> u32;
 pub const PROVED: &str = "proved";
 pub const SECOND: &str = "second";
 
-/// A program's calls on raw words. Set-up, edit, import and ruby place say their number.
+/// A program's calls on raw words. All but reads say their number.
 #[derive(Clone, Copy)]
 pub struct Program {
     /// The column's name.
     pub name: &'static str,
     pub set_up: SetUp,
+    pub take: fn(&mut [u32], u32) -> u32,
+    pub give_back: fn(&mut [u32], u32, u32) -> u32,
     pub edit: Edit,
     pub import: Import,
     pub read_number: fn(&[u32], u32, u32) -> u32,
@@ -28,6 +30,8 @@ pub struct Program {
 const SECOND_PROGRAM: Program = Program {
     name: SECOND,
     set_up: |sheet, clinics, measures, indents| second::set_up(sheet, clinics, measures, indents).number,
+    take: |sheet, caller| black_box(second::take(sheet, caller)).number,
+    give_back: |sheet, caller, slot| second::give_back(sheet, caller, slot).number,
     edit: |sheet, caller, slot, place, deleted, inserted| {
         second::edit(sheet, second::Edit { caller, slot, place, deleted, inserted }).number
     },
@@ -47,6 +51,8 @@ const PROVED_PROGRAM: Program = {
     Program {
         name: PROVED,
         set_up: |sheet, clinics, measures, indents| raw::set_up(sheet, clinics, measures, indents).number,
+        take: |sheet, caller| black_box(raw::take(sheet, Clinic(caller))).number,
+        give_back: |sheet, caller, slot| raw::give_back(sheet, Clinic(caller), SlotNumber(slot)).number,
         edit: |sheet, caller, slot, place, deleted, inserted| {
             raw::edit(sheet, Clinic(caller), SlotNumber(slot), place, deleted, inserted).number
         },

@@ -6,7 +6,7 @@ use crate::programs::{PROVED, SECOND};
 use crate::timing::Cell;
 use crate::work::{
     EDIT_OF_IMPORT, FROM_UTF8, IMPORT, IMPORT_OF_1_MB, IMPORT_OF_500_KB, MEMCPY, MEMSET, ONE_OF_128,
-    ONE_OF_256, ONE_OF_256_ON_64_SLOTS, PLAIN,
+    ONE_OF_256, ONE_OF_256_ON_64_SLOTS, PLAIN, TAKE_LAST_OF_32, TAKE_LAST_OF_64,
 };
 
 const PROGRAMS: [&str; 2] = [PROVED, SECOND];
@@ -23,13 +23,14 @@ const COLUMNS: [(&str, &str); 7] = [
 ];
 
 /// Rows of which the first should not take much more than the second: more slots, an import and its edit; or twice as
-/// much, of twice the records or bytes; and an import beside the least that can be asked of its text.
-const GROWTHS: [(&str, &str); 5] = [
+/// much, of twice the records, bytes or slots to look at; and an import beside the least that can be asked of its text.
+const GROWTHS: [(&str, &str); 6] = [
     (ONE_OF_256_ON_64_SLOTS, ONE_OF_256),
     (ONE_OF_256, ONE_OF_128),
     (IMPORT, EDIT_OF_IMPORT),
     (IMPORT, FROM_UTF8),
     (IMPORT_OF_1_MB, IMPORT_OF_500_KB),
+    (TAKE_LAST_OF_64, TAKE_LAST_OF_32),
 ];
 
 /// What is not a call.
@@ -84,9 +85,9 @@ impl Report {
         ]
     }
 
-    /// How an edit of this program grows with slots and with records, and an import over its edit, over `from_utf8`
-    /// and with bytes.
-    fn growths(&self, column: &str) -> [Option<f64>; 5] {
+    /// How an edit of this program grows with slots and with records, an import over its edit, over `from_utf8` and
+    /// with bytes, and a taking with slots.
+    fn growths(&self, column: &str) -> [Option<f64>; 6] {
         GROWTHS.map(|(more, less)| {
             let less =
                 if YARDSTICKS.contains(&less) { self.median(less, PLAIN) } else { self.median(less, column) };
@@ -94,7 +95,7 @@ impl Report {
         })
     }
 
-    /// The rows, then how an edit and an import grow.
+    /// The rows, then how an edit, an import and a taking grow.
     pub fn table(&self) -> String {
         let [memset, memcpy, from_utf8] = self.yardsticks().map(number);
         let mut table =
@@ -106,7 +107,7 @@ impl Report {
         }
         table.push('\n');
         for column in PROGRAMS {
-            let [slots, records, import, utf8, bytes] = self.growths(column).map(number);
+            let [slots, records, import, utf8, bytes, take] = self.growths(column).map(number);
             let _ = writeln!(
                 table,
                 "{column}: an edit on 64 slots takes {slots} times one on 1, of 256 records {records} times one of 128"
@@ -116,6 +117,8 @@ impl Report {
                 "{column}: an import of 256 records takes {import} times its edit, {utf8} times from_utf8 of its text, \
                  of 1 MB {bytes} times one of 500 KB"
             );
+            let _ =
+                writeln!(table, "{column}: a taking of the last of 64 slots takes {take} times one of 32");
         }
         table
     }

@@ -2,6 +2,7 @@
 
 use std::hint::black_box;
 
+use crate::pool::{copy_and_give_back, refused_with_14, take_last, take_refused};
 use crate::programs::{self, Program};
 use crate::texts::{
     imported, latin, leaflets, opened, prose, rare, record, text, with_last_unlisted, Words, LEAFLETS,
@@ -9,8 +10,8 @@ use crate::texts::{
 };
 use crate::timing::Cell;
 
-const SLOT: usize = 2_824;
-const CLINIC: u32 = 7;
+pub const SLOT: usize = 2_824;
+pub const CLINIC: u32 = 7;
 /// Twenty characters.
 const MEASURE: u32 = 20 * SIZE;
 
@@ -28,13 +29,15 @@ pub const IMPORT: &str = "import of 256";
 pub const EDIT_OF_IMPORT: &str = "the edit that it is";
 pub const IMPORT_OF_1_MB: &str = "import of 1 MB, refused";
 pub const IMPORT_OF_500_KB: &str = "import of 500 KB, refused";
+pub const TAKE_LAST_OF_64: &str = "take the last of 64 slots";
+pub const TAKE_LAST_OF_32: &str = "take the last of 32 slots";
 /// One text edited again and again is soon learnt by branch prediction: this row has too many for that.
 const ONE_OF_256_OVER_64_TEXTS: &str = "replace 1 of 256, 64 texts";
 
 /// Makes a row's cell for a program.
 type Row = fn(Program) -> Cell;
 
-const ROWS: [Row; 19] = [
+const ROWS: [Row; 24] = [
     |program| replace_all(program, "replace all 256"),
     |program| replace_one(program, ONE_OF_256, &text(256), [15, 19], 1),
     |program| replace_one(program, ONE_OF_128, &text(128), [15, 19], 1),
@@ -47,9 +50,15 @@ const ROWS: [Row; 19] = [
     |program| replace_one_of_each(program, ONE_OF_256_OVER_64_TEXTS),
     |program| refused(program, "refused with 3", CLINIC + 1, record(19, SIZE), 3),
     |program| refused(program, "refused with 10", CLINIC, record(19, 4_000), 10),
+    |program| refused_with_14(program, "refused with 14"),
     |program| read(program, "read"),
     |program| ruby_place(program, "ruby place"),
     |program| set_up(program, "set-up of 64 slots"),
+    |program| take_last(program, TAKE_LAST_OF_64, 64),
+    |program| take_last(program, TAKE_LAST_OF_32, 32),
+    |program| take_refused(program, "take of 64, refused with 13"),
+    // Beside the copying alone, which is a yardstick.
+    |program| copy_and_give_back(program, "copy of 256 and give back"),
     |program| import(program, IMPORT),
     |program| edit_of_import(program, EDIT_OF_IMPORT),
     |program| import_refused(program, "import refused with 17", &with_last_unlisted(), 17),
@@ -133,7 +142,19 @@ fn replace_one_of_each(program: Program, row: &'static str) -> Cell {
 
 /// An edit of 256 records that is refused.
 fn refused(program: Program, row: &'static str, caller: u32, inserted: Words, expected: u32) -> Cell {
-    let mut sheet = composed_sheet(program, &text(256), 1);
+    let sheet = composed_sheet(program, &text(256), 1);
+    refused_on(program, row, sheet, caller, inserted, expected)
+}
+
+/// An edit of a sheet of one slot that is refused.
+pub fn refused_on(
+    program: Program,
+    row: &'static str,
+    mut sheet: Vec<u32>,
+    caller: u32,
+    inserted: Words,
+    expected: u32,
+) -> Cell {
     Cell::new(row, program.name, move || {
         let number = (program.edit)(black_box(&mut sheet), caller, 0, 128, 1, black_box(&inserted));
         assert_eq!(number, expected);
@@ -211,17 +232,19 @@ fn import_refused(program: Program, row: &'static str, imported: &str, expected:
 }
 
 /// A sheet whose last slot holds this text.
-fn composed_sheet(program: Program, text: &[u32], slots: u32) -> Vec<u32> {
+pub fn composed_sheet(program: Program, text: &[u32], slots: u32) -> Vec<u32> {
     let mut sheet = fresh_sheet(program, slots);
     fill(program, &mut sheet, slots - 1, text);
     sheet
 }
 
-fn fresh_sheet(program: Program, slots: u32) -> Vec<u32> {
+/// A sheet whose slots are all in use.
+pub fn fresh_sheet(program: Program, slots: u32) -> Vec<u32> {
     let mut sheet = vec![0; slots as usize * SLOT];
     let of_all = |word| vec![word; slots as usize];
     let number = (program.set_up)(&mut sheet, &of_all(CLINIC), &of_all(MEASURE), &of_all(0));
     assert_eq!(number, 0);
+    (0..slots).for_each(|_| assert_eq!((program.take)(&mut sheet, CLINIC), 0));
     sheet
 }
 

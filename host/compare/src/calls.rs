@@ -23,6 +23,18 @@ pub enum Call {
         /// The indent of each slot.
         indents: Vec<u32>,
     },
+    /// Take.
+    Take {
+        /// The calling clinic.
+        caller: u32,
+    },
+    /// Give back.
+    GiveBack {
+        /// The calling clinic.
+        caller: u32,
+        /// The slot's number.
+        slot: u32,
+    },
     /// Edit.
     Edit {
         /// The calling clinic.
@@ -75,6 +87,12 @@ pub struct Case {
 }
 
 impl Call {
+    /// Sets up a sheet of one slot and takes it, so that it can be edited.
+    pub fn one_slot(clinic: u32, measure: u32, indent: u32) -> [Call; 2] {
+        let set_up = Call::SetUp { clinics: vec![clinic], measures: vec![measure], indents: vec![indent] };
+        [set_up, Call::Take { caller: clinic }]
+    }
+
     /// The edit that puts these records in place of the `deleted` ones of slot 0.
     pub fn replace(caller: u32, deleted: u32, inserted: &[u32]) -> Call {
         Call::Edit { caller, slot: 0, place: 0, deleted, inserted: inserted.to_vec() }
@@ -122,6 +140,8 @@ impl fmt::Display for Call {
             Call::SetUp { clinics, measures, indents } => {
                 write!(f, "set-up: clinics {clinics:?}, measures {measures:?}, indents {indents:?}")
             }
+            Call::Take { caller } => write!(f, "take: caller {caller}"),
+            Call::GiveBack { caller, slot } => write!(f, "give back: caller {caller}, slot {slot}"),
             Call::Edit { caller, slot, place, deleted, inserted } => {
                 write!(f, "edit: caller {caller}, slot {slot}, place {place}, delete {deleted}, insert")?;
                 inserted.chunks(6).try_for_each(|record| write!(f, "\n    {record:?}"))

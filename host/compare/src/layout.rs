@@ -2,6 +2,8 @@
 
 /// The words of a slot.
 pub const SLOT: usize = 2_824;
+/// Where in a slot the in-use word is.
+pub const IN_USE: usize = 5;
 /// Where in a slot the records start.
 pub const RECORDS: usize = 8;
 /// Where in a slot the places start.
@@ -35,7 +37,7 @@ pub fn line_starts(slot: &[u32]) -> Vec<u32> {
 pub fn name(at: usize) -> String {
     let (slot, word) = (at / SLOT, at % SLOT);
     const HEAD: [&str; 8] =
-        ["clinic", "measure", "indent", "record count", "line count", "zero", "zero", "zero"];
+        ["clinic", "measure", "indent", "record count", "line count", "in use", "zero", "zero"];
     const RECORD: [&str; 6] = ["code point", "class", "size", "advance", "group", "ruby count"];
     const PLACE: [&str; 2] = ["x", "line number"];
     const LINE: [&str; 3] = ["first record", "end x", "kind"];

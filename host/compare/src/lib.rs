@@ -6,6 +6,7 @@
 //! Every random case comes from a seed of its own, and a failure names it: GELUMBRIO_SEED set to
 //! that seed runs that case alone.
 
+pub mod caller;
 pub mod calls;
 pub mod comparisons;
 pub mod failure;
@@ -18,6 +19,7 @@ pub mod random;
 pub mod rows;
 pub mod run;
 pub mod shrink;
+pub mod single;
 pub mod tally;
 pub mod texts;
 

@@ -44,12 +44,19 @@ impl<'a> OneSlot<'a> {
         }
     }
 
-    /// Empties the slot.
+    /// Empties the slot and takes it.
     pub fn set_up(&mut self, measure: u32, indent: u32) -> Result<(), Failure> {
         let tested = self.program.set_up(&mut self.tested, &[CLINIC], &[measure], &[indent]);
         let second = Second.set_up(&mut self.second, &[CLINIC], &[measure], &[indent]);
         self.tally.count(Outcome::SetUp(second.number));
-        self.compared(tested == second, || set_up_call((measure, indent)))?;
+        let [set_up, take] = Call::one_slot(CLINIC, measure, indent);
+        self.compared(tested == second, || set_up.clone())?;
+        let tested = self.program.take(&mut self.tested, CLINIC);
+        let second = Second.take(&mut self.second, CLINIC);
+        self.tally.count(Outcome::Take(second.number));
+        if tested != second || self.tested != self.second {
+            return Err(self.failure_of(vec![set_up, take]));
+        }
         self.setting = Some((measure, indent));
         self.records.clear();
         Ok(())
@@ -130,12 +137,18 @@ impl<'a> OneSlot<'a> {
 
     /// What a call failed on that met these records.
     fn failure(&self, records: &[u32], call: Call) -> Failure {
-        // The last set-up and the text give a slot the words that the call met.
+        // The last set-up, the taking and the text give a slot the words that the call met.
         let mut calls = Vec::new();
-        if let Some(setting) = self.setting {
-            calls.extend([set_up_call(setting), Call::replace(CLINIC, 0, records)]);
+        if let Some((measure, indent)) = self.setting {
+            calls.extend(Call::one_slot(CLINIC, measure, indent));
+            calls.push(Call::replace(CLINIC, 0, records));
         }
         calls.push(call);
+        self.failure_of(calls)
+    }
+
+    /// The failure of these calls.
+    fn failure_of(&self, calls: Vec<Call>) -> Failure {
         let case = Case { length: SLOT, junk: None, calls };
         Failure::new(self.test, self.seed, self.program, &case)
     }
@@ -149,8 +162,4 @@ fn own(place: u32, deleted: u32, inserted: &[u32]) -> Edit<'_> {
 fn edit_call(edit: Edit) -> Call {
     let Edit { caller, slot, place, deleted, inserted } = edit;
     Call::Edit { caller, slot, place, deleted, inserted: inserted.to_vec() }
-}
-
-fn set_up_call((measure, indent): (u32, u32)) -> Call {
-    Call::SetUp { clinics: vec![CLINIC], measures: vec![measure], indents: vec![indent] }
 }

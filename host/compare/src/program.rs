@@ -1,8 +1,12 @@
 //! The programs that can be compared.
 
+use std::fmt;
 use std::ops::Range;
 
 use second::{Answer, Edit, EditAnswer, Import, ImportAnswer, RubyPlace};
+
+use crate::calls::Call;
+use crate::tally::Outcome;
 
 /// What the second program is called.
 pub const SECOND: &str = "the second program";
@@ -14,6 +18,12 @@ pub trait Program {
 
     /// Set-up.
     fn set_up(&self, sheet: &mut [u32], clinics: &[u32], measures: &[u32], indents: &[u32]) -> Answer;
+
+    /// Take.
+    fn take(&self, sheet: &mut [u32], caller: u32) -> Answer;
+
+    /// Give back.
+    fn give_back(&self, sheet: &mut [u32], caller: u32, slot: u32) -> Answer;
 
     /// Edit.
     fn edit(&self, sheet: &mut [u32], edit: Edit<'_>) -> EditAnswer;
@@ -37,6 +47,60 @@ pub trait Program {
     fn class_of(&self, code_point: u32) -> u32;
 }
 
+/// What a program alone answers to a call.
+#[derive(Clone, PartialEq, Eq)]
+pub struct Answered {
+    /// The number.
+    pub number: u32,
+    /// The outcome that is counted, but for damage.
+    pub outcome: Option<Outcome>,
+    /// All of the answer.
+    pub told: String,
+}
+
+impl fmt::Debug for Answered {
+    fn fmt(&self, f: &mut fmt::Formatter<'_>) -> fmt::Result {
+        f.write_str(&self.told)
+    }
+}
+
+/// Makes a call on one program alone.
+pub fn answer(program: &dyn Program, sheet: &mut [u32], call: &Call) -> Answered {
+    let answered = |number, outcome, told| Answered { number, outcome: Some(outcome), told };
+    match call {
+        Call::SetUp { clinics, measures, indents } => {
+            let answer = program.set_up(sheet, clinics, measures, indents);
+            answered(answer.number, Outcome::SetUp(answer.number), format!("{answer:?}"))
+        }
+        &Call::Take { caller } => {
+            let answer = program.take(sheet, caller);
+            answered(answer.number, Outcome::Take(answer.number), format!("{answer:?}"))
+        }
+        &Call::GiveBack { caller, slot } => {
+            let answer = program.give_back(sheet, caller, slot);
+            answered(answer.number, Outcome::GiveBack(answer.number), format!("{answer:?}"))
+        }
+        &Call::Edit { caller, slot, place, deleted, ref inserted } => {
+            let answer = program.edit(sheet, Edit { caller, slot, place, deleted, inserted });
+            answered(answer.number, Outcome::Edit(answer.number), format!("{answer:?}"))
+        }
+        &Call::Import { caller, slot, size, ref text } => {
+            let answer = program.import(sheet, Import { caller, slot, size, text });
+            answered(answer.number, Outcome::Import(answer.number), format!("{answer:?}"))
+        }
+        &Call::Read { caller, slot } => {
+            let (number, part) =
+                (program.read_number(sheet, caller, slot), program.read(sheet, caller, slot));
+            let words = sheet.get(part.clone());
+            answered(number, Outcome::of_read(number, &part), format!("{number}, {part:?}: {words:?}"))
+        }
+        &Call::Damage { at, word } => {
+            sheet[at] = word;
+            Answered { number: 0, outcome: None, told: String::new() }
+        }
+    }
+}
+
 /// The second program.
 #[derive(Debug, Clone, Copy)]
 pub struct Second;
@@ -48,6 +112,14 @@ impl Program for Second {
 
     fn set_up(&self, sheet: &mut [u32], clinics: &[u32], measures: &[u32], indents: &[u32]) -> Answer {
         second::set_up(sheet, clinics, measures, indents)
+    }
+
+    fn take(&self, sheet: &mut [u32], caller: u32) -> Answer {
+        second::take(sheet, caller)
+    }
+
+    fn give_back(&self, sheet: &mut [u32], caller: u32, slot: u32) -> Answer {
+        second::give_back(sheet, caller, slot)
     }
 
     fn edit(&self, sheet: &mut [u32], edit: Edit<'_>) -> EditAnswer {
@@ -92,6 +164,17 @@ impl Program for Proved {
 
     fn set_up(&self, sheet: &mut [u32], clinics: &[u32], measures: &[u32], indents: &[u32]) -> Answer {
         let answer = gelumbrio::raw::set_up(sheet, clinics, measures, indents);
+        Answer { number: answer.number, place: answer.place }
+    }
+
+    fn take(&self, sheet: &mut [u32], caller: u32) -> Answer {
+        let answer = gelumbrio::raw::take(sheet, gelumbrio::Clinic(caller));
+        Answer { number: answer.number, place: answer.place }
+    }
+
+    fn give_back(&self, sheet: &mut [u32], caller: u32, slot: u32) -> Answer {
+        let (caller, slot) = (gelumbrio::Clinic(caller), gelumbrio::SlotNumber(slot));
+        let answer = gelumbrio::raw::give_back(sheet, caller, slot);
         Answer { number: answer.number, place: answer.place }
     }
 

@@ -9,7 +9,10 @@ use second::{kept, Edit, Import};
 use crate::calls::{Call, Case};
 use crate::layout::{self, record_words, slot_words};
 use crate::program::{Program, Second, SECOND};
+use crate::single::single_edits;
 use crate::tally::{Outcome, Tally};
+
+const BOOK: &str = "the book";
 
 /// A sheet on each side, and the book.
 pub struct Run<'a> {
@@ -29,6 +32,7 @@ pub fn run(program: &dyn Program, case: &Case) -> Result<Tally, String> {
     for (i, call) in case.calls.iter().enumerate() {
         run.apply(call).map_err(|difference| format!("call {i}: {difference}"))?;
     }
+    run.single_edits()?;
     Ok(run.tally)
 }
 
@@ -49,6 +53,8 @@ impl<'a> Run<'a> {
     pub fn apply(&mut self, call: &Call) -> Result<(), String> {
         match call {
             Call::SetUp { clinics, measures, indents } => self.set_up(clinics, measures, indents)?,
+            Call::Take { caller } => self.take(*caller)?,
+            Call::GiveBack { caller, slot } => self.give_back(*caller, *slot)?,
             &Call::Edit { caller, slot, place, deleted, ref inserted } => {
                 self.edit(Edit { caller, slot, place, deleted, inserted })?;
             }
@@ -56,11 +62,15 @@ impl<'a> Run<'a> {
                 self.import(Import { caller, slot, size, text })?;
             }
             Call::Read { caller, slot } => self.read(*caller, *slot)?,
-            Call::Damage { at, word } => self.damage(*at, *word),
+            Call::Damage { at, word } => {
+                // No program has a part in it, so that there is nothing to compare.
+                self.damage(*at, *word);
+                return Ok(());
+            }
         }
         same_words(&self.tested, &self.second, SECOND)?;
         if self.book_holds {
-            same_words(&self.tested, &self.book.encode(), "the book")?;
+            same_words(&self.tested, &self.book.encode(), BOOK)?;
         }
         Ok(())
     }
@@ -71,9 +81,39 @@ impl<'a> Run<'a> {
         same_answer(tested, second, SECOND)?;
         // The answer of set-up depends on no word of the sheet, so the book always knows it.
         let book = self.book.set_up(self.tested.len(), clinics, measures, indents);
-        same_answer(tested, book, "the book")?;
+        same_answer(tested, book, BOOK)?;
         self.book_holds |= second.number == 0;
         self.tally.count(Outcome::SetUp(second.number));
+        Ok(())
+    }
+
+    fn take(&mut self, caller: u32) -> Result<(), String> {
+        let tested = self.program.take(&mut self.tested, caller);
+        let second = Second.take(&mut self.second, caller);
+        self.same_answers(tested, second, |book, length| book.take(length, caller))?;
+        self.tally.count(Outcome::Take(second.number));
+        Ok(())
+    }
+
+    fn give_back(&mut self, caller: u32, slot: u32) -> Result<(), String> {
+        let tested = self.program.give_back(&mut self.tested, caller, slot);
+        let second = Second.give_back(&mut self.second, caller, slot);
+        self.same_answers(tested, second, |book, length| book.give_back(length, caller, slot))?;
+        self.tally.count(Outcome::GiveBack(second.number));
+        Ok(())
+    }
+
+    /// Whether both programs answer the same, and the book too where it speaks for the sheet.
+    fn same_answers<A: PartialEq + Debug + Copy>(
+        &mut self,
+        tested: A,
+        second: A,
+        in_book: impl FnOnce(&mut Book, usize) -> A,
+    ) -> Result<(), String> {
+        same_answer(tested, second, SECOND)?;
+        if self.book_holds {
+            same_answer(tested, in_book(&mut self.book, self.tested.len()), BOOK)?;
+        }
         Ok(())
     }
 
@@ -81,11 +121,7 @@ impl<'a> Run<'a> {
         let before = slot_words(&self.tested, edit.slot).map(<[u32]>::to_vec);
         let tested = self.program.edit(&mut self.tested, edit);
         let second = Second.edit(&mut self.second, edit);
-        same_answer(tested, second, SECOND)?;
-        if self.book_holds {
-            let book = self.book.edit(self.tested.len(), edit);
-            same_answer(tested, book, "the book")?;
-        }
+        self.same_answers(tested, second, |book, length| book.edit(length, edit))?;
         self.tally.count(Outcome::Edit(second.number));
         match before {
             Some(before) if tested.number == 0 => self.keeps_other_lines(before, edit, tested.redone),
@@ -97,11 +133,7 @@ impl<'a> Run<'a> {
         let before = slot_words(&self.tested, import.slot).map(<[u32]>::to_vec);
         let tested = self.program.import(&mut self.tested, import);
         let second = Second.import(&mut self.second, import);
-        same_answer(tested, second, SECOND)?;
-        if self.book_holds {
-            let book = self.book.import(self.tested.len(), import);
-            same_answer(tested, book, "the book")?;
-        }
+        self.same_answers(tested, second, |book, length| book.import(length, import))?;
         self.tally.count(Outcome::Import(second.number));
         match before {
             Some(before) if tested.number == 0 => {
@@ -136,12 +168,20 @@ impl<'a> Run<'a> {
         same_part(&part, &second_part, number)?;
         if self.book_holds {
             let reading = self.book.read(self.tested.len(), caller, slot);
-            same_number(number, reading.number, "the book")?;
+            same_number(number, reading.number, BOOK)?;
             if self.tested.get(part) != Some(reading.words.as_slice()) {
                 return Err("read's words are not the book's".to_string());
             }
         }
         self.tally.count(Outcome::of_read(second, &second_part));
+        Ok(())
+    }
+
+    /// Where the book speaks for the sheet, whether single edits leave the same words.
+    pub fn single_edits(&self) -> Result<(), String> {
+        if self.book_holds {
+            single_edits(self.program, &self.tested, &self.book)?;
+        }
         Ok(())
     }
 

@@ -37,6 +37,10 @@ pub enum Redone {
 pub enum Outcome {
     /// Set-up, with this number.
     SetUp(u32),
+    /// Take, with this number.
+    Take(u32),
+    /// Give back, with this number.
+    GiveBack(u32),
     /// Edit, with this number.
     Edit(u32),
     /// Import, with this number.
@@ -63,13 +67,14 @@ pub enum Outcome {
 
 impl Outcome {
     /// Every outcome of a read.
-    pub const READS: [Outcome; 6] = [
+    pub const READS: [Outcome; 7] = [
         Outcome::ReadLines,
         Outcome::ReadNoLines,
         Outcome::ReadRefused(1),
         Outcome::ReadRefused(2),
         Outcome::ReadRefused(3),
         Outcome::ReadRefused(4),
+        Outcome::ReadRefused(14),
     ];
 
     /// Every choice of lines that an edit can compose anew.

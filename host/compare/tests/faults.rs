@@ -2,16 +2,17 @@
 
 use compare::comparisons::{
     cases, digits, gaps, junk, leaflet, limits, lists, pairs, paragraphs, redone, ruby, sequences, short,
-    Comparison, ALL,
+    slots, Comparison, ALL,
 };
 use compare::failure::{Failure, NOT_SEEN_AGAIN};
 use compare::faults::{
-    wrong_lists, Fault, Misimport, Misreading, Misrow, ASKED_WRONGLY, CLASSES_AS, DIGITS, FIELDS,
-    IMPORTED_WRONGLY, IN_BOTH_ROWS, IN_RUBY, LOOKUPS, MISIMPORTS, MISREADINGS, NARROW_FIELDS, SINGLE, TABLES,
+    wrong_lists, Fault, Misimport, Misreading, Misrow, Misuse, ASKED_WRONGLY, CLASSES_AS, DIGITS, FIELDS,
+    IMPORTED_WRONGLY, IN_BOTH_ROWS, IN_RUBY, LOOKUPS, MISIMPORTS, MISREADINGS, MISUSES, NARROW_FIELDS,
+    SINGLE, TABLES,
 };
 use compare::generate::plain;
 use compare::layout::{CLASSES, LINES};
-use compare::program::{Second, SECOND, UNDER_TEST};
+use compare::program::{Program, Second, SECOND, UNDER_TEST};
 use compare::{heading, Scope};
 
 /// The first failure of these comparisons, whose case shows the difference again.
@@ -28,6 +29,15 @@ fn each_is_found(faults: &[Fault], comparisons: &[Comparison], most_calls: usize
         let failure = find(fault, comparisons);
         println!("{}", failure.in_one_line());
         assert!(failure.calls <= most_calls, "{fault:?}: {failure}");
+    }
+}
+
+/// The program passes every comparison in brief.
+fn passes_all(program: &dyn Program) {
+    for comparison in ALL {
+        if let Err(failure) = comparison(program, Scope::Brief) {
+            panic!("{failure}");
+        }
     }
 }
 
@@ -59,7 +69,7 @@ fn every_pair_of_classes_is_looked_at() {
 
 #[test]
 fn spaces_from_a_wrong_table() {
-    each_is_found(&TABLES, &[gaps::compare], 2);
+    each_is_found(&TABLES, &[gaps::compare], 3);
 }
 
 /// Where there is a space, a cell of the table can take it from the wrong side, or name the wrong stage.
@@ -90,16 +100,14 @@ fn has_space(left: u32, right: u32) -> bool {
 
 #[test]
 fn sums_in_fields_too_narrow() {
-    each_is_found(&NARROW_FIELDS, &[gaps::compare], 2);
+    each_is_found(&NARROW_FIELDS, &[gaps::compare], 3);
 }
 
 /// The lines of these faults are otherwise set as they should be.
 #[test]
 fn sums_in_fields_wide_enough() {
     let packed = Fault::Fields(FIELDS);
-    for comparison in ALL {
-        assert!(comparison(&packed, Scope::Brief).is_ok());
-    }
+    passes_all(&packed);
     assert!(gaps::compare(&packed, Scope::Full).is_ok());
 }
 
@@ -111,15 +119,15 @@ fn in_rows(misrows: &[Misrow], more: &[Misrow]) -> Vec<Fault> {
 fn rows_of_ruby_set_wrongly() {
     let faults = in_rows(&IN_BOTH_ROWS, &IN_RUBY);
     each_is_found(&faults, &[ruby::places], 1);
-    each_is_found(&faults, &[cases::compare], 2);
+    each_is_found(&faults, &[cases::compare], 3);
 }
 
 /// Each shows on the sheet, in the cases worked by hand, and among all other calls.
 #[test]
 fn base_rows_set_wrongly() {
     let faults = in_rows(&IN_BOTH_ROWS, &[Misrow::OldBase]);
-    each_is_found(&faults, &[ruby::groups], 2);
-    each_is_found(&faults, &[cases::compare], 2);
+    each_is_found(&faults, &[ruby::groups], 3);
+    each_is_found(&faults, &[cases::compare], 3);
     each_is_found(&faults, &[sequences::compare], 8);
 }
 
@@ -127,7 +135,7 @@ fn base_rows_set_wrongly() {
 #[test]
 fn places_as_document_01_has_them() {
     let faults = in_rows(&[Misrow::StoredPlaces, Misrow::OuterGaps, Misrow::OldBase], &[]);
-    each_is_found(&faults, &[ruby::stored], 4);
+    each_is_found(&faults, &[ruby::stored], 5);
 }
 
 /// A fault of one row is not seen in the other: both are compared, and what is stored besides.
@@ -145,24 +153,19 @@ fn one_row_set_wrongly() {
 #[test]
 fn rows_set_by_the_formula() {
     let sound = Fault::Rows(Misrow::Sound);
-    for comparison in ALL {
-        assert!(comparison(&sound, Scope::Brief).is_ok());
-    }
+    passes_all(&sound);
     assert!(ruby::compare(&sound, Scope::Full).is_ok());
 }
 
 #[test]
 fn misreadings_of_the_redone_lines() {
-    each_is_found(&MISREADINGS.map(Fault::Redone), &[redone::compare], 4);
+    each_is_found(&MISREADINGS.map(Fault::Redone), &[redone::compare], 5);
 }
 
 /// Their reports are otherwise what they should be.
 #[test]
 fn the_redone_lines_read_rightly() {
-    let sound = Fault::Redone(Misreading::Sound);
-    for comparison in ALL {
-        assert!(comparison(&sound, Scope::Brief).is_ok());
-    }
+    passes_all(&Fault::Redone(Misreading::Sound));
 }
 
 /// Each shows in a lookup, and in what an edit answers.
@@ -176,7 +179,7 @@ fn wrong_lists_are_found() {
 
 #[test]
 fn lists_asked_wrongly() {
-    each_is_found(&ASKED_WRONGLY.map(Fault::Listed), &[lists::edits], 4);
+    each_is_found(&ASKED_WRONGLY.map(Fault::Listed), &[lists::edits], 5);
 }
 
 /// They show among all other calls too.
@@ -187,7 +190,7 @@ fn lists_asked_wrongly_in_sequences_and_junk() {
 
 #[test]
 fn misimports() {
-    each_is_found(&MISIMPORTS.map(Fault::Imported), &[leaflet::compare, limits::compare], 3);
+    each_is_found(&MISIMPORTS.map(Fault::Imported), &[leaflet::compare, limits::compare], 4);
 }
 
 /// Those of the call, and not of how a text is read, show among all other calls too.
@@ -202,11 +205,43 @@ fn misimports_in_sequences_and_junk() {
 #[test]
 fn imports_by_another_reader() {
     let sound = Fault::Imported(Misimport::Sound);
-    for comparison in ALL {
-        let failure = comparison(&sound, Scope::Brief).err();
-        assert!(failure.is_none(), "{}", failure.map_or(String::new(), |failure| failure.to_string()));
-    }
+    passes_all(&sound);
     assert!(leaflet::compare(&sound, Scope::Full).is_ok());
+}
+
+#[test]
+fn misuses_of_slots() {
+    each_is_found(&MISUSES.map(Fault::Used), &[slots::compare, limits::compare], 6);
+}
+
+/// "No clinic can use up another's slots": each of these takings changes what another clinic is answered, which shows
+/// without the second program.
+#[test]
+fn takings_that_another_clinic_feels() {
+    let felt = [
+        Misuse::AnyClinics,
+        Misuse::UnassignedToo,
+        Misuse::AnothersFreeCounts,
+        Misuse::UsedUpByAnother,
+        Misuse::NextToo,
+    ];
+    each_is_found(&felt.map(Fault::Used), &[slots::two_clinics], 4);
+    // These slots are taken wrongly, and nobody else's.
+    for misuse in [Misuse::Highest, Misuse::DamagedIsFree, Misuse::TakeEmpties] {
+        assert!(slots::two_clinics(&Fault::Used(misuse), Scope::Brief).is_ok(), "{misuse:?}");
+    }
+}
+
+/// They show among all other calls too.
+#[test]
+fn misuses_of_slots_in_sequences_and_junk() {
+    each_is_found(&MISUSES.map(Fault::Used), &[sequences::compare, junk::compare], 8);
+}
+
+/// A taking that goes through all slots, and a giving back that asks an edit, agree with the second program.
+#[test]
+fn slots_used_rightly() {
+    passes_all(&Fault::Used(Misuse::Sound));
 }
 
 #[test]
@@ -224,16 +259,14 @@ fn a_failing_set_up_is_told_with_the_text_before_it() {
     for comparison in [pairs::compare, short::compare, paragraphs::compare] {
         let failure = find(Fault::SetUpHeadOnly, &[comparison]);
         println!("{failure}");
-        assert_eq!((failure.calls, failure.seed.is_some()), (3, failure.test == "paragraphs"));
+        assert_eq!((failure.calls, failure.seed.is_some()), (4, failure.test == "paragraphs"));
     }
 }
 
 #[test]
 fn the_second_program_agrees_with_itself() {
     println!("{}", heading("all, in brief", &Second));
-    for comparison in ALL {
-        assert!(comparison(&Second, Scope::Brief).is_ok());
-    }
+    passes_all(&Second);
 }
 
 /// A comparison of the second program with itself must not pass for one of the proved library.

@@ -4,33 +4,39 @@
 //! 01 says what every call answers and every word of the sheet afterwards.
 //!
 //! ```
-//! use gelumbrio::{Clinic, Kind, Refusal, Sheet, SlotNumber};
+//! use gelumbrio::{Clinic, Kind, Refusal, Sheet};
 //!
 //! let mut sheet = Sheet::new(2)?;
 //! sheet.set_up(&[Clinic(7), Clinic(9)], &[440, 800], &[0, 0])?;
+//! let slot = sheet.take(Clinic(7))?;
 //!
 //! // Six ideographs of size 80 in a measure of 440.
 //! let ideograph = [0x6F22, 19, 80, 80, 0, 0];
-//! let edited = sheet.edit(Clinic(7), SlotNumber(0), 0, 0, &[ideograph; 6].concat())?;
+//! let edited = sheet.edit(Clinic(7), slot, 0, 0, &[ideograph; 6].concat())?;
 //! assert_eq!((edited.lines, edited.redone), (2, 2));
 //!
-//! let lines = sheet.lines(Clinic(7), SlotNumber(0))?;
+//! let lines = sheet.lines(Clinic(7), slot)?;
 //! assert_eq!((lines[0].kind, lines[0].xs.as_slice()), (Kind::Flush, &[0, 90, 180, 270, 360][..]));
 //! assert_eq!((lines[1].kind, lines[1].end_x), (Kind::Final, 80));
 //!
 //! // Another clinic's slot stays closed.
-//! assert_eq!(sheet.read(Clinic(9), SlotNumber(0)), Err(Refusal::Caller));
+//! assert_eq!(sheet.read(Clinic(9), slot), Err(Refusal::Caller));
+//!
+//! // A slot that is given back is empty, and free to be taken again.
+//! sheet.give_back(Clinic(7), slot)?;
+//! assert_eq!(sheet.read(Clinic(7), slot), Err(Refusal::NotInUse));
 //! # Ok::<(), Refusal>(())
 //! ```
 //!
 //! A leaflet from the web, with ruby, is imported as it is:
 //!
 //! ```
-//! # use gelumbrio::{Clinic, Refusal, Sheet, SlotNumber};
+//! # use gelumbrio::{Clinic, Refusal, Sheet};
 //! # let mut sheet = Sheet::new(1)?;
 //! # sheet.set_up(&[Clinic(7)], &[440], &[0])?;
+//! # let slot = sheet.take(Clinic(7))?;
 //! let text = "<ruby>頓服<rt>とんぷく</rt></ruby>は、1日3回まで。";
-//! let imported = sheet.import(Clinic(7), SlotNumber(0), 80, text)?;
+//! let imported = sheet.import(Clinic(7), slot, 80, text)?;
 //! assert_eq!(imported.lines, 2);
 //! # Ok::<(), Refusal>(())
 //! ```
@@ -41,14 +47,28 @@
 //! # use gelumbrio::{Clinic, Sheet, SlotNumber};
 //! # let mut sheet = Sheet::new(1).unwrap();
 //! let _ = sheet.edit(Clinic(1), SlotNumber(0), 0, 0, &[]);
+//! let _ = sheet.give_back(Clinic(1), SlotNumber(0));
+//! let _ = sheet.take(Clinic(1));
 //! ```
 //!
-//! and with the two exchanged it does not:
+//! and with the one in the other's place it does not:
 //!
 //! ```compile_fail,E0308
 //! # use gelumbrio::{Clinic, Sheet, SlotNumber};
 //! # let mut sheet = Sheet::new(1).unwrap();
 //! let _ = sheet.edit(SlotNumber(0), Clinic(1), 0, 0, &[]);
+//! ```
+//!
+//! ```compile_fail,E0308
+//! # use gelumbrio::{Clinic, Sheet, SlotNumber};
+//! # let mut sheet = Sheet::new(1).unwrap();
+//! let _ = sheet.give_back(SlotNumber(0), Clinic(1));
+//! ```
+//!
+//! ```compile_fail,E0308
+//! # use gelumbrio::{Sheet, SlotNumber};
+//! # let mut sheet = Sheet::new(1).unwrap();
+//! let _ = sheet.take(SlotNumber(0));
 //! ```
 
 mod leaflet;

@@ -17,13 +17,14 @@ pub struct Clinic(pub u32);
 #[derive(Debug, Clone, Copy, PartialEq, Eq, PartialOrd, Ord, Hash)]
 pub struct SlotNumber(pub u32);
 
-/// The answer of set-up.
+/// The answer of set-up, of taking and of giving back.
 #[repr(C)]
 #[derive(Debug, Clone, Copy, PartialEq, Eq)]
 pub struct Answer {
     /// 0, or the refusal's number.
     pub number: u32,
-    /// P where the number is 0, otherwise the refusal's place.
+    /// Where the number is 0, P for set-up, the slot's number for taking and 0 for giving back; otherwise the
+    /// refusal's place.
     pub place: u32,
 }
 
@@ -81,6 +82,10 @@ extern "C" {
         indents_length: usize,
     ) -> Answer;
 
+    fn gelumbrio_take(sheet: *mut u32, sheet_length: usize, caller: Clinic) -> Answer;
+
+    fn gelumbrio_give_back(sheet: *mut u32, sheet_length: usize, caller: Clinic, slot: SlotNumber) -> Answer;
+
     fn gelumbrio_edit(
         sheet: *mut u32,
         sheet_length: usize,
@@ -130,6 +135,20 @@ pub fn set_up(sheet: &mut [u32], clinics: &[u32], measures: &[u32], indents: &[u
             indents.len(),
         )
     }
+}
+
+/// Take: the caller's lowest-numbered slot that is not in use becomes one in use; its number is the place.
+pub fn take(sheet: &mut [u32], caller: Clinic) -> Answer {
+    // SAFETY: the pointer and length are of a live slice that is borrowed mutably. The library is proved to stay
+    // inside it and keeps no pointer.
+    unsafe { gelumbrio_take(sheet.as_mut_ptr(), sheet.len(), caller) }
+}
+
+/// Give back: a slot in use of the caller's becomes as set-up left it.
+pub fn give_back(sheet: &mut [u32], caller: Clinic, slot: SlotNumber) -> Answer {
+    // SAFETY: the pointer and length are of a live slice that is borrowed mutably. The library is proved to stay
+    // inside it and keeps no pointer.
+    unsafe { gelumbrio_give_back(sheet.as_mut_ptr(), sheet.len(), caller, slot) }
 }
 
 /// Edit: deletes records at a place, inserts others there and composes the slot.

@@ -1,5 +1,5 @@
 //! Why a call is refused (document 01, "Refusal numbers, in the order they are checked", and document 02,
-//! requests 04 and 05).
+//! requests 04, 05 and 07).
 
 use std::error::Error;
 use std::fmt;
@@ -14,15 +14,20 @@ pub enum Refusal {
     Length,
     /// 2: the sheet has no such slot.
     Slot,
-    /// 3: the slot is not the caller's.
+    /// 3: the slot is not the caller's, or the caller of a taking is 0, who has none.
     Caller,
+    /// 13: the clinic has no free slot to take. One that it gives back is free again.
+    NoneFree,
+    /// 14, which comes before 4: the slot is the caller's, but not in use. [`Sheet::take`](crate::Sheet::take) takes
+    /// the lowest-numbered of these.
+    NotInUse,
     /// 4: what the slot holds is damaged.
     ///
-    /// An edit finds a measure or indent out of limits, more than 256 records, or records that break
-    /// a rule or are not in their classes' lists. Only a set-up mends these, and it empties every slot
-    /// of the sheet. A read finds more than 256 lines, and [`Sheet::lines`](crate::Sheet::lines) lines
-    /// that do not share out the records. Any accepted edit mends these, even an empty one: it composes
-    /// the whole slot.
+    /// An edit and a giving back find a measure or indent out of limits, more than 256 records, records that
+    /// break a rule or are not in their classes' lists, or an in-use word above 1. Only a set-up mends these, and
+    /// it empties every slot of the sheet. A read finds such an in-use word and more than 256 lines, and
+    /// [`Sheet::lines`](crate::Sheet::lines) lines that do not share out the records. Any accepted edit mends
+    /// bad lines, even an empty one: it composes the whole slot.
     Damaged,
     /// 5: the place or the deletion passes the end.
     PastEnd {
@@ -92,6 +97,8 @@ impl Refusal {
             10 => Refusal::NoBreaking { record: place },
             11 => Refusal::Limits { slot: place },
             12 => Refusal::NotListed { record: place },
+            13 => Refusal::NoneFree,
+            14 => Refusal::NotInUse,
             _ => Refusal::Unknown { number, place },
         })
     }
@@ -111,6 +118,8 @@ impl Refusal {
             Refusal::NoBreaking { .. } => 10,
             Refusal::Limits { .. } => 11,
             Refusal::NotListed { .. } => 12,
+            Refusal::NoneFree => 13,
+            Refusal::NotInUse => 14,
             Refusal::Leaflet(_) => 17,
             Refusal::Unknown { number, .. } => number,
         }
@@ -124,10 +133,12 @@ impl fmt::Display for Refusal {
                 "the sheet is not 1 to 64 slots of 2,824 words, or a set-up list has not one number per slot",
             ),
             Refusal::Slot => f.write_str("the sheet has no slot of that number"),
-            Refusal::Caller => f.write_str("the slot does not belong to the calling clinic"),
+            Refusal::Caller => f.write_str("the slot does not belong to the calling clinic; clinic 0 has none"),
+            Refusal::NoneFree => f.write_str("the clinic has no free slot"),
+            Refusal::NotInUse => f.write_str("the slot is not in use; its clinic must take it first"),
             Refusal::Damaged => f.write_str(
-                "what the slot holds is damaged; any accepted edit mends its lines, but bad settings or records \
-                 need a set-up, which empties every slot",
+                "what the slot holds is damaged; any accepted edit mends its lines, but bad settings, records or \
+                 in-use words need a set-up, which empties every slot",
             ),
             Refusal::PastEnd { count } => {
                 write!(f, "the edit reaches past the slot's end; it has {count} records")

@@ -75,11 +75,15 @@ impl Sheet {
     /// A sheet of words that were kept, which may be any.
     ///
     /// Damage shows as [`Refusal::Damaged`] in the call that meets it. An edit meets a measure or
-    /// indent out of limits, a record count over 256 and records that break a rule or are not in their
-    /// classes' lists; only a set-up mends these, and it empties every slot. A read meets a line count
-    /// over 256, and [`lines`](Sheet::lines) meets lines that do not share out the records; any accepted
-    /// edit mends these, even an empty one. It also mends what no call judges, the x positions and the
-    /// words past the counts. Another clinic's number in the slot shows as [`Refusal::Caller`].
+    /// indent out of limits, a record count over 256, records that break a rule or are not in their
+    /// classes' lists, and an in-use word above 1, which a read meets too; only a set-up mends these, and it
+    /// empties every slot. A read meets a line count over 256, and [`lines`](Sheet::lines) meets lines that do
+    /// not share out the records; any accepted edit mends these, even an empty one. It also mends what no call
+    /// judges, the x positions and the words past the counts. Another clinic's number in the slot shows as
+    /// [`Refusal::Caller`].
+    ///
+    /// An in-use word of 0 shows as [`Refusal::NotInUse`]. Every slot of a sheet has it that was filled before there
+    /// was [`take`](Sheet::take): once a slot is taken, its text is there again.
     pub fn from_words(words: Vec<u32>) -> Result<Sheet, Refusal> {
         let slots = words.len() / SLOT_WORDS;
         if !words.len().is_multiple_of(SLOT_WORDS) || !(1..=MAX_SLOTS).contains(&slots) {
@@ -104,11 +108,52 @@ impl Sheet {
     }
 
     /// Gives each slot its clinic, measure and indent and empties it. The lists have one number
-    /// for each slot.
+    /// for each slot. No slot is in use after it: call [`take`](Sheet::take) next.
     pub fn set_up(&mut self, clinics: &[Clinic], measures: &[u32], indents: &[u32]) -> Result<(), Refusal> {
         let clinics: Vec<u32> = clinics.iter().map(|clinic| clinic.0).collect();
         let answer = raw::set_up(&mut self.words, &clinics, measures, indents);
         accepted(answer.number, answer.place).map(|_slots| ())
+    }
+
+    /// Takes the caller's lowest-numbered slot that is not in use, and says which it is. Its in-use word alone changes,
+    /// and nothing else of it is judged: a slot that holds a text from before there was this call keeps it. Which slot
+    /// is granted does not depend on other clinics' slots or calls.
+    ///
+    /// ```
+    /// use gelumbrio::{Clinic, Refusal, Sheet, SlotNumber};
+    ///
+    /// let mut sheet = Sheet::new(3)?;
+    /// sheet.set_up(&[Clinic(9), Clinic(7), Clinic(7)], &[440; 3], &[0; 3])?;
+    /// assert_eq!(sheet.take(Clinic(7)), Ok(SlotNumber(1)));
+    /// assert_eq!(sheet.take(Clinic(7)), Ok(SlotNumber(2)));
+    /// // A slot of another clinic's is free, which is no help.
+    /// assert_eq!(sheet.take(Clinic(7)), Err(Refusal::NoneFree));
+    /// # Ok::<(), Refusal>(())
+    /// ```
+    pub fn take(&mut self, caller: Clinic) -> Result<SlotNumber, Refusal> {
+        let answer = raw::take(&mut self.words, caller);
+        accepted(answer.number, answer.place).map(SlotNumber)
+    }
+
+    /// Gives a slot back: it is emptied, keeps its clinic, measure and indent, and can be taken again.
+    ///
+    /// ```
+    /// use gelumbrio::{Clinic, Refusal, Sheet};
+    ///
+    /// let mut sheet = Sheet::new(1)?;
+    /// sheet.set_up(&[Clinic(7)], &[440], &[0])?;
+    /// let slot = sheet.take(Clinic(7))?;
+    /// sheet.import(Clinic(7), slot, 80, "食後に")?;
+    /// sheet.give_back(Clinic(7), slot)?;
+    /// assert_eq!(sheet.read(Clinic(7), slot), Err(Refusal::NotInUse));
+    ///
+    /// assert_eq!(sheet.take(Clinic(7)), Ok(slot));
+    /// assert_eq!(sheet.read(Clinic(7), slot), Ok(&[][..]));
+    /// # Ok::<(), Refusal>(())
+    /// ```
+    pub fn give_back(&mut self, caller: Clinic, slot: SlotNumber) -> Result<(), Refusal> {
+        let answer = raw::give_back(&mut self.words, caller, slot);
+        accepted(answer.number, answer.place).map(|_zero| ())
     }
 
     /// Deletes records at a place, inserts others there and composes the slot. Place and count are in
@@ -134,15 +179,16 @@ impl Sheet {
     /// records have this size; those of brackets, points, hyphens and Western characters are half as wide.
     ///
     /// ```
-    /// use gelumbrio::{Clinic, Sheet, SlotNumber};
+    /// use gelumbrio::{Clinic, Sheet};
     ///
     /// let mut sheet = Sheet::new(1)?;
     /// sheet.set_up(&[Clinic(7)], &[440], &[0])?;
+    /// let slot = sheet.take(Clinic(7))?;
     /// let text = "<ruby>頓服<rp>(</rp><rt>とんぷく</rt><rp>)</rp></ruby>を1錠。";
-    /// let imported = sheet.import(Clinic(7), SlotNumber(0), 80, text)?;
+    /// let imported = sheet.import(Clinic(7), slot, 80, text)?;
     /// assert_eq!((imported.lines, imported.redone), (1, 1));
     ///
-    /// let line = &sheet.lines(Clinic(7), SlotNumber(0))?[0];
+    /// let line = &sheet.lines(Clinic(7), slot)?[0];
     /// assert_eq!((line.xs.as_slice(), line.end_x), (&[0, 80, 160, 260, 320, 400][..], 440));
     /// # Ok::<(), gelumbrio::Refusal>(())
     /// ```
@@ -150,11 +196,12 @@ impl Sheet {
     /// A text that is no leaflet is refused, and the refusal says where and why:
     ///
     /// ```
-    /// use gelumbrio::{Clinic, Refusal, Sheet, SlotNumber};
+    /// use gelumbrio::{Clinic, Refusal, Sheet};
     ///
     /// let mut sheet = Sheet::new(1)?;
     /// sheet.set_up(&[Clinic(7)], &[400], &[0])?;
-    /// let refusal = sheet.import(Clinic(7), SlotNumber(0), 80, "1日3回（毎食後）").unwrap_err();
+    /// let slot = sheet.take(Clinic(7))?;
+    /// let refusal = sheet.import(Clinic(7), slot, 80, "1日3回（毎食後）").unwrap_err();
     /// assert_eq!(refusal.number(), 17);
     /// assert_eq!(
     ///     refusal.to_string(),

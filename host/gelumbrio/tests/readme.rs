@@ -34,6 +34,12 @@ fn the_c_snippet_compiles_and_runs() {
     let ran = Command::new(&program).output().expect("the program runs");
     assert!(ran.status.success(), "{}", ran.status);
     let wrote = String::from_utf8(ran.stdout).expect("text");
-    let expected = "answer 0, 2 lines, 2 of them composed anew\nanswer 0, the first line ends at 440\nanother clinic: 3\n";
-    assert_eq!(wrote, expected);
+    let expected = [
+        "answer 0, slot 1",
+        "answer 0, 2 lines, 2 of them composed anew",
+        "answer 0, the first line ends at 440",
+        "another clinic: 3",
+        "given back: 0",
+    ];
+    assert_eq!(wrote.lines().collect::<Vec<_>>(), expected);
 }

@@ -1,24 +1,11 @@
 //! The safe face: sheets, typed lines and refusals in words.
 
-use gelumbrio::{
-    class_of, in_list, ruby_place, Clinic, Edited, Found, Kind, Line, Refusal, Sheet, SlotNumber, SLOT_WORDS,
-};
+mod common;
 
-const CLINIC: Clinic = Clinic(7);
-const SLOT: SlotNumber = SlotNumber(0);
-const K: [u32; 6] = [0x6F22, 19, 80, 80, 0, 0];
+use common::{damaged, edited, refused, sheet, two_lines, CLINIC, K, SLOT};
+use gelumbrio::{class_of, in_list, ruby_place, Clinic, Kind, Line, Refusal, Sheet, SlotNumber, SLOT_WORDS};
+
 const FULL_STOP: [u32; 6] = [0x3002, 6, 80, 40, 0, 0];
-
-fn sheet(measure: u32) -> Sheet {
-    let mut sheet = Sheet::new(2).unwrap();
-    sheet.set_up(&[CLINIC, Clinic(9)], &[measure, 800], &[0, 0]).unwrap();
-    sheet
-}
-
-/// What an edit says that is accepted.
-fn edited(lines: u32, redone: u32) -> Result<Edited, Refusal> {
-    Ok(Edited { lines, redone })
-}
 
 #[test]
 fn a_sheet_has_1_to_64_slots() {
@@ -65,20 +52,6 @@ fn an_edit_says_how_many_lines_it_redid() {
     assert_eq!(sheet.edit(CLINIC, SLOT, 0, 32, &[]), edited(0, 0));
 }
 
-/// Six ideographs on two lines: line words 0, 440, 1 and 5, 80, 3.
-fn two_lines() -> Sheet {
-    let mut sheet = sheet(440);
-    assert_eq!(sheet.edit(CLINIC, SLOT, 0, 0, &[K; 6].concat()), edited(2, 2));
-    sheet
-}
-
-/// The sheet, one word of it another.
-fn damaged(sheet: &Sheet, at: usize, word: u32) -> Sheet {
-    let mut words = sheet.words().to_vec();
-    words[at] = word;
-    Sheet::from_words(words).unwrap()
-}
-
 #[test]
 fn damaged_lines_are_mended_by_any_accepted_edit() {
     let sound = two_lines();
@@ -120,12 +93,15 @@ fn lines_are_held_against_the_record_count() {
 #[test]
 fn damaged_settings_and_records_need_a_set_up() {
     let sound = two_lines();
-    // Measure, indent, record count, a record's class, and code points and classes that do not go together.
-    for (at, word) in [(1, 7), (2, 440), (3, 300), (9, 17), (8, 0x3001), (9, 15)] {
+    // Measure, indent, record count, in-use word, a record's class, and code points and classes that do not go
+    // together.
+    for (at, word) in [(1, 7), (2, 440), (3, 300), (5, 2), (9, 17), (8, 0x3001), (9, 15)] {
         let mut sheet = damaged(&sound, at, word);
         assert_eq!(sheet.edit(CLINIC, SLOT, 0, 0, &[]), Err(Refusal::Damaged), "word {at} = {word}");
-        assert_eq!(sheet.lines(CLINIC, SLOT).is_err(), at == 3, "word {at} = {word}");
+        assert_eq!(sheet.give_back(CLINIC, SLOT), Err(Refusal::Damaged), "word {at} = {word}");
+        assert_eq!(sheet.lines(CLINIC, SLOT).is_err(), [3, 5].contains(&at), "word {at} = {word}");
         assert_eq!(sheet.set_up(&[CLINIC, Clinic(9)], &[440, 800], &[0, 0]), Ok(()));
+        assert_eq!(sheet.take(CLINIC), Ok(SLOT));
         assert_eq!(sheet.lines(CLINIC, SLOT), Ok(vec![]));
     }
 }
@@ -136,12 +112,6 @@ fn what_lines_does_not_judge_is_handed_back_as_stored() {
     let changed = damaged(&damaged(&sound, 1_544, 9), 2_057, 999);
     let lines = changed.lines(CLINIC, SLOT).unwrap();
     assert_eq!((lines[0].xs[0], lines[0].end_x), (9, 999));
-}
-
-/// Checks that a call is refused so.
-fn refused<T: std::fmt::Debug + PartialEq>(outcome: Result<T, Refusal>, number: u32, refusal: Refusal) {
-    assert_eq!(outcome, Err(refusal));
-    assert_eq!(refusal.number(), number, "{refusal:?}");
 }
 
 #[test]
@@ -177,6 +147,7 @@ fn refusals_by_number() {
     refused(sheet.read(CLINIC, SlotNumber(2)), 2, Refusal::Slot);
     refused(Sheet::new(1).unwrap().read(Clinic(0), SLOT), 3, Refusal::Caller);
     refused(damaged(&sheet, 4, 257).read(CLINIC, SLOT), 4, Refusal::Damaged);
+    refused(damaged(&sheet, 5, 2).read(CLINIC, SLOT), 4, Refusal::Damaged);
 }
 
 #[test]
@@ -184,108 +155,16 @@ fn a_refusal_says_why() {
     let expected = "the text from record 3 to where a line may next end does not fit in the measure; \
                     line 0 also holds the indent";
     assert_eq!(Refusal::NoBreaking { record: 3 }.to_string(), expected);
-    let expected = "what the slot holds is damaged; any accepted edit mends its lines, but bad settings or \
-                    records need a set-up, which empties every slot";
+    let expected =
+        "what the slot holds is damaged; any accepted edit mends its lines, but bad settings, records \
+                    or in-use words need a set-up, which empties every slot";
     assert_eq!(Refusal::Damaged.to_string(), expected);
+    assert_eq!(Refusal::NoneFree.to_string(), "the clinic has no free slot");
+    assert_eq!(Refusal::NotInUse.to_string(), "the slot is not in use; its clinic must take it first");
     let told = Refusal::NotListed { record: 4 }.to_string();
     assert!(told.starts_with("record 4's character is not in the published list of its class"), "{told}");
     let error: Box<dyn std::error::Error> = Box::new(Refusal::PastEnd { count: 12 });
     assert_eq!(error.to_string(), "the edit reaches past the slot's end; it has 12 records");
-}
-
-#[test]
-fn a_leaflet_takes_the_place_of_what_stood_there() {
-    let mut sheet = two_lines();
-    let text = "<ruby>頓服<rp>(</rp><rt>とんぷく</rt><rp>)</rp></ruby>、";
-    assert_eq!(sheet.import(CLINIC, SLOT, 80, text), edited(1, 1));
-    let group = |code_point| [code_point, 19, 80, 80, 1, 4];
-    let records = [group(0x9813), group(0x670D), [0x3001, 7, 80, 40, 0, 0]].concat();
-    assert_eq!(sheet.words()[3], 3);
-    assert_eq!(sheet.words()[8..][..18], records);
-    let mut by_edit = two_lines();
-    assert_eq!(by_edit.edit(CLINIC, SLOT, 0, 6, &records), edited(1, 1));
-    assert_eq!(sheet, by_edit);
-
-    // Bytes will do, and an empty leaflet leaves nothing.
-    assert_eq!(sheet.import(CLINIC, SLOT, 80, b"5%"), edited(1, 1));
-    assert_eq!(sheet.import(CLINIC, SLOT, 7, String::new()), edited(0, 0));
-}
-
-/// The fault of a text that is no leaflet: where it is, and how it is told.
-fn fault(text: impl AsRef<[u8]>) -> (usize, usize, usize, String) {
-    let mut sheet = two_lines();
-    let before = sheet.clone();
-    // It comes before every other refusal.
-    let outcome = sheet.import(Clinic(9), SlotNumber(5), 7, &text);
-    assert_eq!(outcome, sheet.import(CLINIC, SLOT, 80, &text));
-    assert_eq!(sheet, before);
-    let Err(refusal @ Refusal::Leaflet(fault)) = outcome else { panic!("{outcome:?}") };
-    assert_eq!(refusal.number(), 17);
-    let told = refusal.to_string();
-    let (place, why) = told.split_once(": ").expect("a place and what is wrong there");
-    assert_eq!(
-        place,
-        format!("line {}, column {} of the leaflet (byte {})", fault.line, fault.column, fault.offset)
-    );
-    (fault.offset, fault.line, fault.column, why.to_string())
-}
-
-#[test]
-fn a_fault_in_a_leaflet_says_what_stands_where() {
-    let of_tags = "is none of the tags of a leaflet, which are <ruby>, <rt>, <rp> and their end tags";
-    let of_lists = "may not stand here, as it is in no published list";
-    for (text, offset, column, why) in [
-        ("あ（", 3, 2, format!("'（' (U+FF08) {of_lists}")),
-        ("あ\n", 3, 2, format!("'\\n' (U+000A) {of_lists}")),
-        ("<ruby>漢<rt>か</rt>あ</ruby>", 21, 18, "'あ' (U+3042) may not stand here".to_string()),
-        ("あ>", 3, 2, "'>' may stand in a tag only".to_string()),
-        ("あ&amp;", 3, 2, "'&' may not stand in a leaflet".to_string()),
-        ("あ<rt>か</rt>", 3, 2, "<rt> may not stand here".to_string()),
-        ("あ<br>い", 3, 2, format!("<br> {of_tags}")),
-        ("あ<br<b>", 3, 2, format!("<br {of_tags}")),
-        ("あ<a\n>", 3, 2, format!("<a {of_tags}")),
-        ("あ<b\tid>", 3, 2, format!("<b\\tid> {of_tags}")),
-        ("あ<ru", 3, 2, format!("<ru {of_tags}")),
-        ("<RUBY>", 0, 1, format!("<RUBY> {of_tags}")),
-        // Cut before the character that would pass 32 bytes.
-        ("<ruby title=\"ああああああああああ\">", 0, 1, format!("<ruby title=\"ああああああ… {of_tags}")),
-        ("<ruby>漢", 9, 8, "the text ends here, inside a ruby element".to_string()),
-    ] {
-        assert_eq!(fault(text), (offset, 1, column, why), "{text}");
-    }
-    for (text, offset, hex) in [
-        (&b"A\xED\xA0\x80"[..], 1, "ED A0 80"),
-        (b"A\xC0\x80", 1, "C0 80"),
-        (b"A\xF4\x90\x80\x80\x80", 1, "F4 90 80 80"),
-        (b"A\xE3\x81", 1, "E3 81"),
-        (b"A\xE3\x81<", 1, "E3 81"),
-        (b"\x80\x80", 0, "80"),
-        (b"\xFF", 0, "FF"),
-    ] {
-        assert_eq!(fault(text), (offset, 1, offset + 1, format!("the bytes {hex} are no UTF-8")), "{text:?}");
-    }
-}
-
-#[test]
-fn lines_of_a_leaflet_are_counted_by_their_ends() {
-    // Line ends may stand in rt and rp.
-    for (ends, line) in [("\n", 2), ("\r\n", 2), ("\r", 2), ("\n\n", 3), ("\r\r\n", 3), ("\n\r", 3)] {
-        let text = format!("<ruby>漢<rt>か{ends}漢字</rt>い");
-        let (offset, at_line, column, _) = fault(&text);
-        assert_eq!((offset, at_line, column), (text.len() - 3, line, 8), "{text:?}");
-    }
-}
-
-#[test]
-fn what_a_fault_found_can_be_matched() {
-    let found = |text: &[u8]| match sheet(400).import(CLINIC, SLOT, 80, text) {
-        Err(Refusal::Leaflet(fault)) => fault.found,
-        outcome => panic!("{outcome:?}"),
-    };
-    assert_eq!(found(b"&"), Found::Character('&'));
-    assert_eq!(found(b"<ruby>"), Found::End);
-    assert!(matches!(found(b"<br>"), Found::Tag(tag) if tag.as_bytes() == b"<br>" && !tag.is_cut()));
-    assert!(matches!(found(b"\xC0\x80"), Found::IllFormed(bytes) if bytes.as_bytes() == b"\xC0\x80"));
 }
 
 #[test]

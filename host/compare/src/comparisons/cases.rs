@@ -1,7 +1,9 @@
 //! C1 to C13 (document 01, "Composed by hand") and the cases of document 02's requests, against the
 //! numbers on the paper and beside the second program.
 
-use second::by_hand::{self, EDITS, GROUPS, PAPERS, REQUEST_06, RUBY};
+use second::by_hand::{
+    self, UseCase, EDITS, GROUPS, PAPERS, REQUEST_06, REQUEST_07, RUBY, TAKES, USES, USES_SET_UP,
+};
 use second::leaflet::by_hand::{all_refused, ACCEPTED, SIZE};
 use second::{Edit, EditAnswer, ImportAnswer};
 
@@ -9,9 +11,9 @@ use crate::calls::{Call, Case};
 use crate::failure::Failure;
 use crate::layout::{record_words, SLOT};
 use crate::one_slot::OneSlot;
-use crate::program::Program;
+use crate::program::{answer, Answered, Program};
 use crate::run::{run, same_answer, same_words};
-use crate::tally::Tally;
+use crate::tally::{Outcome, Tally};
 use crate::Scope;
 
 const TEST: &str = "cases";
@@ -38,10 +40,55 @@ pub fn compare(program: &dyn Program, _scope: Scope) -> Result<Tally, Failure> {
     for (base_advance, size, offsets) in RUBY {
         row_of_ruby(program, base_advance, size, offsets)?;
     }
+    for case in TAKES {
+        taking(program, &case)
+            .map_err(|difference| paper_failure(program, REQUEST_07, case.name, difference))?;
+        tally.count(Outcome::Take(case.expected().0.number));
+    }
+    for case in USES {
+        tally.add(&calls_on_a_slot(program, &case)?);
+    }
     Ok(tally)
 }
 
-/// Records in a fresh slot, beside the second program and as on the paper.
+/// A taking of request 07, as on the paper.
+fn taking(program: &dyn Program, case: &by_hand::TakeCase) -> Result<(), String> {
+    let mut sheet = case.sheet();
+    let (answer, words) = case.expected();
+    same_answer(program.take(&mut sheet, case.caller), answer, PAPER)?;
+    same_words(&sheet, &words, PAPER)
+}
+
+/// An edit, a read and a giving back of request 07, beside the second program and as on the paper.
+fn calls_on_a_slot(program: &dyn Program, case: &UseCase) -> Result<Tally, Failure> {
+    let mut tally = Tally::default();
+    let [clinics, measures, indents] = USES_SET_UP.map(|list| list.to_vec());
+    let mut before = vec![Call::SetUp { clinics, measures, indents }, Call::Take { caller: CLINIC }];
+    before.push(Call::replace(CLINIC, 0, &UseCase::records()));
+    before.extend(case.damages.iter().map(|&(at, word)| Call::Damage { at, word }));
+
+    let (caller, slot) = case.call;
+    let calls = [
+        Call::Edit { caller, slot, place: 0, deleted: 0, inserted: vec![] },
+        Call::Read { caller, slot },
+        Call::GiveBack { caller, slot },
+    ];
+    for (call, expected) in calls.into_iter().zip(case.numbers) {
+        let mut sheet = vec![0; USES_SET_UP[0].len() * SLOT];
+        before.iter().for_each(|call| drop(answer(program, &mut sheet, call)));
+        let Answered { number, told, .. } = answer(program, &mut sheet, &call);
+        if number != expected {
+            let difference = format!("{call}: {told}; {PAPER}: number {expected}");
+            return Err(paper_failure(program, REQUEST_07, case.name, difference));
+        }
+        let length = sheet.len();
+        let beside = Case { length, junk: None, calls: [&before[..], &[call]].concat() };
+        tally.add(&run(program, &beside).map_err(|_| Failure::new(TEST, None, program, &beside))?);
+    }
+    Ok(tally)
+}
+
+/// Records in a slot just taken, beside the second program and as on the paper.
 fn composed(
     program: &dyn Program,
     (paper, name): (&str, &str),
@@ -49,11 +96,8 @@ fn composed(
     records: &[u32],
     on_paper: (EditAnswer, Vec<u32>),
 ) -> Result<Tally, Failure> {
-    let calls = vec![
-        Call::SetUp { clinics: vec![CLINIC], measures: vec![measure], indents: vec![0] },
-        Call::replace(CLINIC, 0, records),
-        Call::Read { caller: CLINIC, slot: 0 },
-    ];
+    let mut calls = Call::one_slot(CLINIC, measure, 0).to_vec();
+    calls.extend([Call::replace(CLINIC, 0, records), Call::Read { caller: CLINIC, slot: 0 }]);
     let beside = Case { length: SLOT, junk: None, calls };
     let seen = run(program, &beside).map_err(|_| Failure::new(TEST, None, program, &beside))?;
     as_on_paper(program, measure, records, on_paper)
@@ -78,8 +122,8 @@ fn edit(program: &dyn Program, case: &by_hand::EditCase) -> Result<Tally, Failur
     let mut slot = OneSlot::new(TEST, None, program);
     slot.set_up(case.setting.0, case.setting.1)?;
     slot.replace(&case.old())?;
-    let answer = slot.edit(case.place, case.deleted, &case.inserted())?;
-    same_answer(answer, case.expected(), PAPER)
+    let edited = slot.edit(case.place, case.deleted, &case.inserted())?;
+    same_answer(edited, case.expected(), PAPER)
         .map_err(|difference| paper_failure(program, "document 02, request 03", case.name, difference))?;
     Ok(slot.tally)
 }
@@ -121,6 +165,7 @@ fn as_on_paper(
 ) -> Result<(), String> {
     let mut sheet = vec![0; SLOT];
     program.set_up(&mut sheet, &[CLINIC], &[measure], &[0]);
+    program.take(&mut sheet, CLINIC);
     let edit = Edit { caller: CLINIC, slot: 0, place: 0, deleted: 0, inserted: records };
     same_answer(program.edit(&mut sheet, edit), answer, PAPER)?;
     same_words(&sheet, &words, PAPER)

@@ -43,8 +43,10 @@ fn stored() -> Case {
     // One less than the letter and its postfix take together.
     let measure = SIZE + SIZE / 2 - 1;
     let calls = code_points(27).flat_map(|word| {
+        let [set_up, take] = Call::one_slot(7, measure, 0);
         [
-            Call::SetUp { clinics: vec![7], measures: vec![measure], indents: vec![0] },
+            set_up,
+            take,
             Call::replace(7, 0, &text),
             Call::Damage { at: RECORDS + 6, word },
             Call::Read { caller: 7, slot: 0 },

@@ -3,7 +3,7 @@
 use crate::calls::{Call, Case};
 use crate::failure::Failure;
 use crate::generate::{spoil, spoil_some, Style, EDGES};
-use crate::layout::SLOT;
+use crate::layout::{IN_USE, SLOT};
 use crate::program::Program;
 use crate::random::{seeds, Random};
 use crate::run::run;
@@ -47,6 +47,8 @@ fn junk_case(seed: u64) -> Case {
             measures: of_all(measure),
             indents: of_all(indent),
         });
+        // The slots after it stay free.
+        calls.extend((0..=slot).map(|_| Call::Take { caller }));
         calls.push(Call::Edit { caller, slot, place: 0, deleted: 0, inserted: text.clone() });
     }
     let start = slot as usize * SLOT;
@@ -58,11 +60,19 @@ fn junk_case(seed: u64) -> Case {
         calls.push(Call::Damage { at: start + at, word });
     }
     if junk.is_some() {
-        // Junk has some clinic: the word is set so that the slot itself is looked at.
-        calls.push(Call::Damage { at: start, word: caller });
+        // Junk has some clinic and some in-use word: they are set so that the slots themselves are looked at.
+        for start in (0..slots as usize).map(|slot| slot * SLOT) {
+            calls.push(Call::Damage { at: start, word: caller });
+            calls.push(Call::Damage { at: start + IN_USE, word: in_use(&mut random) });
+        }
+        if random.once_in(2) {
+            // No records in a sound measure, so that all other words of the slot are junk that no call judges.
+            let sound = [(1, measure), (2, indent), (3, 0)];
+            calls.extend(sound.map(|(at, word)| Call::Damage { at: start + at, word }));
+        }
     }
     calls.push(Call::Read { caller, slot });
-    for _ in 0..3 {
+    for _ in 0..4 {
         calls.push(last_call(&mut random, caller, slot, &style));
     }
     calls.push(Call::Read { caller, slot });
@@ -71,7 +81,8 @@ fn junk_case(seed: u64) -> Case {
 
 /// A word of a slot and what it becomes: in the head, in a used record, or anywhere.
 fn damage(random: &mut Random, text: &[u32]) -> (usize, u32) {
-    match random.below(3) {
+    match random.below(4) {
+        3 => (IN_USE, in_use(random)),
         0 => (random.below(8) as usize, random.one_of(&EDGES)),
         1 if !text.is_empty() => {
             let mut words = text.to_vec();
@@ -83,9 +94,20 @@ fn damage(random: &mut Random, text: &[u32]) -> (usize, u32) {
     }
 }
 
+/// An in-use word, of which some say that a slot is free or in use and others nothing.
+fn in_use(random: &mut Random) -> u32 {
+    random.one_of(&[0, 0, 1, 1, 1, 2, 3, 65_536, u32::MAX])
+}
+
 fn last_call(random: &mut Random, caller: u32, slot: u32, style: &Style) -> Call {
     let caller = if random.once_in(8) { random.one_of(&EDGES) } else { caller };
     let slot = if random.once_in(8) { random.one_of(&EDGES) } else { slot };
+    match random.below(12) {
+        0 | 1 => return Call::Take { caller },
+        2 => return Call::GiveBack { caller, slot },
+        3 => return Call::Read { caller, slot },
+        _ => {}
+    }
     if random.once_in(3) {
         let size = style.import_size(random);
         return Call::Import { caller, slot, size, text: texts::any(random) };

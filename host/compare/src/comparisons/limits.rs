@@ -3,7 +3,7 @@
 use crate::calls::{Call, Case, Words};
 use crate::failure::Failure;
 use crate::generate::{plain, usual, usual_advance, EDGES};
-use crate::layout::{CLASSES, RECORDS, SLOT};
+use crate::layout::{CLASSES, IN_USE, RECORDS, SLOT};
 use crate::program::Program;
 use crate::run::run;
 use crate::tally::Tally;
@@ -42,10 +42,15 @@ fn set_up(slots: usize, measure: u32) -> Call {
     Call::SetUp { clinics: vec![7; slots], measures: vec![measure; slots], indents: vec![0; slots] }
 }
 
+fn one_slot(measure: u32) -> [Call; 2] {
+    Call::one_slot(7, measure, 0)
+}
+
 /// Every call on a sheet of this length, which may be wrong.
 fn wrong_length(length: usize) -> Case {
     let slots = length / SLOT;
     let mut calls = vec![set_up(slots, 800), set_up(slots + 1, 800), set_up(0, 800)];
+    calls.extend([7, 0, BIG, 7, 7].map(|caller| Call::Take { caller }));
     for slot in [0, slots.saturating_sub(1) as u32, slots as u32, 64, BIG] {
         calls.push(Call::Edit { caller: 7, slot, place: 0, deleted: 0, inserted: plain(19, 80).to_vec() });
         for text in [DOSE, "<"] {
@@ -54,6 +59,7 @@ fn wrong_length(length: usize) -> Case {
         calls.push(Call::Read { caller: 7, slot });
         calls.push(Call::Read { caller: 0, slot });
         calls.push(Call::Read { caller: BIG, slot });
+        calls.extend([7, 0, BIG].map(|caller| Call::GiveBack { caller, slot }));
     }
     Case { length, junk: Some(length as u64), calls }
 }
@@ -75,11 +81,12 @@ fn set_up_numbers() -> Case {
     Case { length: 3 * SLOT, junk: None, calls }
 }
 
-/// Every pair of edges as place and deletion, and as caller and slot, and every edge as an import's size, each on nine
-/// records.
+/// Every pair of edges as place and deletion, and as caller and slot, and every edge as an import's size and as the
+/// caller of a taking, each on nine records in the first of two slots. The second is not in use.
 fn edit_numbers() -> Vec<Case> {
     let on_nine_records = |calls: &[Call]| {
-        let nine = [set_up(2, 800), Call::replace(7, 0, &plain(19, 80).repeat(9))];
+        let text = plain(19, 80).repeat(9);
+        let nine = [set_up(2, 800), Call::Take { caller: 7 }, Call::replace(7, 0, &text)];
         Case { length: 2 * SLOT, junk: None, calls: [&nine, calls].concat() }
     };
     let largest = Call::Edit { caller: BIG, slot: BIG, place: BIG, deleted: BIG, inserted: vec![BIG; 3_000] };
@@ -90,6 +97,7 @@ fn edit_numbers() -> Vec<Case> {
                 Call::Read { caller: edge, slot: other },
                 Call::Edit { caller: edge, slot: other, place: 0, deleted: 0, inserted: vec![] },
                 Call::Edit { caller: 7, slot: 0, place: edge, deleted: other, inserted: vec![] },
+                Call::GiveBack { caller: edge, slot: other },
             ]));
             // A fault in the text comes before all that is wrong with caller and slot.
             cases.push(on_nine_records(&["<", "あ"].map(|text| {
@@ -98,6 +106,7 @@ fn edit_numbers() -> Vec<Case> {
             })));
         }
         cases.push(on_nine_records(&["<", "", DOSE].map(|text| Call::import(7, edge, text))));
+        cases.push(on_nine_records(&[edge, edge].map(|caller| Call::Take { caller })));
     }
     cases
 }
@@ -110,7 +119,7 @@ fn inserted_lengths() -> Case {
         for cut in [0, 1, 5] {
             let mut words = plain(19, 80).repeat(records);
             words.truncate(words.len().saturating_sub(cut));
-            calls.push(set_up(1, 8_000));
+            calls.extend(one_slot(8_000));
             calls.push(Call::replace(7, 0, &vec![BIG; words.len()]));
             calls.push(Call::replace(7, 0, &words));
             calls.push(Call::replace(7, 0, &words));
@@ -121,7 +130,7 @@ fn inserted_lengths() -> Case {
 
 /// Every edge in every word of a record of every kind.
 fn record_numbers() -> Case {
-    let mut calls = vec![set_up(1, 1_000_000)];
+    let mut calls = Vec::new();
     let grouped = [0x6F22, 19, 80, 80, 1, 2];
     let kinds = [1, 3, 19, 27].map(|class| plain(class, 80)).into_iter().chain([grouped]);
     for record in kinds {
@@ -131,7 +140,7 @@ fn record_numbers() -> Case {
             for edge in EDGES.into_iter().chain(code_points).chain(advances) {
                 let mut spoiled: Words = record;
                 spoiled[word] = edge;
-                calls.push(set_up(1, 1_000_000));
+                calls.extend(one_slot(1_000_000));
                 calls.push(Call::replace(7, 0, &[record, spoiled].concat()));
             }
         }
@@ -151,7 +160,7 @@ fn record_sizes() -> Case {
                 _ => vec![usual_advance(class, size)],
             };
             for advance in advances {
-                calls.push(set_up(1, 1_000_000));
+                calls.extend(one_slot(1_000_000));
                 calls.push(Call::replace(7, 0, &[usual(class), class, size, advance, 0, 0]));
             }
         }
@@ -166,7 +175,7 @@ fn group_lengths() -> Case {
     let (other_size, other_count) = ([0x6F22, 19, 8, 8, 1, 2], [0x6F22, 19, 16, 16, 1, 3]);
     for length in 1..=40 {
         for before in [&[][..], &plain(19, 16), &other_size, &other_count] {
-            calls.push(set_up(1, 1_000));
+            calls.extend(one_slot(1_000));
             calls.push(Call::replace(7, 0, &[before, &grouped.repeat(length)].concat()));
         }
     }
@@ -186,7 +195,7 @@ fn full_slots() -> Case {
         (widest, 128_000),
         (widest, 127_999),
     ] {
-        calls.push(set_up(1, measure));
+        calls.extend(one_slot(measure));
         let text: Vec<u32> = (0..256).flat_map(|i| numbered(record, i)).collect();
         calls.push(Call::replace(7, 0, &text));
         calls.push(Call::Read { caller: 7, slot: 0 });
@@ -216,28 +225,40 @@ fn numbered(mut record: Words, i: u32) -> Words {
 fn measures() -> Vec<Case> {
     let text = [1, 19, 7, 27, 19, 2, 6, 5, 16].map(|class| plain(class, 8)).concat();
     let in_measure = |(measure, indent): (u32, u32)| {
-        let set_up = Call::SetUp { clinics: vec![7], measures: vec![measure], indents: vec![indent] };
-        Case { length: SLOT, junk: None, calls: vec![set_up, Call::replace(7, 0, &text)] }
+        let [set_up, take] = Call::one_slot(7, measure, indent);
+        Case { length: SLOT, junk: None, calls: vec![set_up, take, Call::replace(7, 0, &text)] }
     };
     let settings = (8..200).map(|measure| (measure, measure / 3));
     let large = [(1_000_000, 0), (1_000_000, 999_999), (1_000_000, 999_900), (999_999, 1)];
     settings.chain(large).map(in_measure).collect()
 }
 
-/// Every edge in every word of the head of a slot with a text, read, edited and imported into so.
+/// Every edge in every word of the head of a slot with a text, and in all words before the in-use word beside each
+/// kind of that: read, edited, imported into, given back and taken so.
 fn damaged_heads() -> Vec<Case> {
-    let with_word = |at, word| {
-        let calls = vec![
-            set_up(1, 800),
-            Call::replace(7, 0, &plain(19, 80).repeat(20)),
-            Call::Damage { at, word },
-            Call::Read { caller: 7, slot: 0 },
-            Call::import(7, 80, "あ<"),
-            Call::replace(7, 0, &plain(19, 80)),
-            Call::Damage { at, word },
-            Call::import(7, 80, DOSE),
-        ];
-        Case { length: SLOT, junk: None, calls }
-    };
-    (0..RECORDS).flat_map(|at| EDGES.map(|edge| with_word(at, edge))).collect()
+    let each_edge = |at| EDGES.map(|edge| (at, edge));
+    let alone = (0..RECORDS).flat_map(each_edge).map(|damage| vec![damage]);
+    let beside = [0, 2, BIG]
+        .into_iter()
+        .flat_map(|in_use| (0..IN_USE).flat_map(each_edge).map(move |damage| vec![damage, (IN_USE, in_use)]));
+    alone.chain(beside).map(|damages| with_damaged_head(&damages)).collect()
+}
+
+/// Each call that changes the slot meets these words.
+fn with_damaged_head(damages: &[(usize, u32)]) -> Case {
+    let damages: Vec<Call> = damages.iter().map(|&(at, word)| Call::Damage { at, word }).collect();
+    let mut calls = one_slot(800).to_vec();
+    calls.push(Call::replace(7, 0, &plain(19, 80).repeat(20)));
+    for call in [
+        Call::Read { caller: 7, slot: 0 },
+        Call::import(7, 80, "あ<"),
+        Call::replace(7, 0, &plain(19, 80)),
+        Call::import(7, 80, DOSE),
+        Call::GiveBack { caller: 7, slot: 0 },
+        Call::Take { caller: 7 },
+    ] {
+        calls.extend_from_slice(&damages);
+        calls.push(call);
+    }
+    Case { length: SLOT, junk: None, calls }
 }

@@ -154,8 +154,10 @@ fn order(scope: Scope) -> Case {
     let grouped = |ruby_count| [usual(19), 19, SIZE, SIZE, 1, ruby_count];
     let alphabet = [plain(19, SIZE), comma_as_19, breaks_8, both, grouped(1), grouped(2), plain(19, WIDE)];
     let calls = all_texts(&alphabet, scope.choose(4, 3)).into_iter().flat_map(|text| {
+        let [set_up, take] = Call::one_slot(CLINIC, NARROW_MEASURE, 0);
         [
-            Call::SetUp { clinics: vec![CLINIC], measures: vec![NARROW_MEASURE], indents: vec![0] },
+            set_up,
+            take,
             Call::replace(CLINIC, 0, &plain(15, SIZE).repeat(3)),
             Call::Edit { caller: CLINIC, slot: 0, place: 1, deleted: 1, inserted: text },
         ]
@@ -170,8 +172,8 @@ fn stored() -> Case {
     for class in CLASSES {
         for other in CLASSES {
             for (at, word) in [(0, usual(other)), (1, other)] {
+                calls.extend(Call::one_slot(CLINIC, MEASURE, 0));
                 calls.extend([
-                    Call::SetUp { clinics: vec![CLINIC], measures: vec![MEASURE], indents: vec![0] },
                     Call::replace(CLINIC, 0, &[plain(19, SIZE), plain(class, SIZE)].concat()),
                     Call::Damage { at: RECORDS + 6 + at, word },
                     Call::Read { caller: CLINIC, slot: 0 },

@@ -13,6 +13,7 @@ pub mod redone;
 pub mod ruby;
 pub mod sequences;
 pub mod short;
+pub mod slots;
 
 use crate::failure::Failure;
 use crate::program::Program;
@@ -23,11 +24,12 @@ use crate::Scope;
 pub type Comparison = fn(&dyn Program, Scope) -> Result<Tally, Failure>;
 
 /// All comparisons, the quickest first.
-pub const ALL: [Comparison; 13] = [
+pub const ALL: [Comparison; 14] = [
     cases::compare,
     ruby::compare,
     limits::compare,
     lists::compare,
+    slots::compare,
     junk::compare,
     digits::compare,
     pairs::compare,

@@ -190,10 +190,8 @@ fn with_other_lines_stored(seed: u64) -> Case {
     let mut random = Random::new(seed);
     let style = Style::random(&mut random);
     let (measure, indent, mut text) = long_text(&mut random, &style);
-    let mut calls = vec![
-        Call::SetUp { clinics: vec![CLINIC], measures: vec![measure], indents: vec![indent] },
-        Call::replace(CLINIC, 0, &text),
-    ];
+    let mut calls = Call::one_slot(CLINIC, measure, indent).to_vec();
+    calls.push(Call::replace(CLINIC, 0, &text));
 
     let mut head = [CLINIC, measure, indent, text.len() as u32 / 6];
     match random.below(30) {

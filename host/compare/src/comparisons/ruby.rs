@@ -109,8 +109,8 @@ fn stored_case(group: Group) -> Option<Case> {
         return None;
     }
     let moved = (0..SLOT).filter(|&at| old[at] != slot[at]);
-    let set_up = Call::SetUp { clinics: vec![CLINIC], measures: vec![measure], indents: vec![0] };
-    let mut calls = vec![set_up, Call::replace(CLINIC, 0, &text)];
+    let mut calls = Call::one_slot(CLINIC, measure, 0).to_vec();
+    calls.push(Call::replace(CLINIC, 0, &text));
     calls.extend(moved.map(|at| Call::Damage { at, word: old[at] }));
     calls.extend([Call::Read { caller: CLINIC, slot: 0 }, Call::replace(CLINIC, 0, &[])]);
     Some(Case { length: SLOT, junk: None, calls })

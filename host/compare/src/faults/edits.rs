@@ -36,6 +36,7 @@ fn with_changed_input(fault: Fault, sheet: &mut [u32], edit: Edit<'_>) -> EditAn
             with_records_as(sheet, edit, |record| western_as(record, char::is_numeric, '5'))
         }
         Fault::Listed(mislisting) => mislisting.edit(sheet, edit),
+        Fault::Used(misuse) => misuse.edit(sheet, edit),
         Fault::LargeSizes => with_records_as(sheet, edit, with_size_in_limits),
         Fault::CallerZero if edit.caller == 0 && clinic == 0 => {
             with_head_word(sheet, Edit { caller: 1, ..edit }, 0, 1)
@@ -54,7 +55,7 @@ fn with_changed_input(fault: Fault, sheet: &mut [u32], edit: Edit<'_>) -> EditAn
 }
 
 /// The edit of a slot in which a word of the head is another.
-fn with_head_word(sheet: &mut [u32], edit: Edit<'_>, at: usize, word: u32) -> EditAnswer {
+pub fn with_head_word(sheet: &mut [u32], edit: Edit<'_>, at: usize, word: u32) -> EditAnswer {
     let Some(slot) = slot_words_mut(sheet, edit.slot) else {
         return Second.edit(sheet, edit);
     };
@@ -123,7 +124,7 @@ fn with_spoiled_output(
             EditAnswer { place: old[4], ..answer }
         }
         (Fault::RefusalWrites, 10) => {
-            slot[5] = 1;
+            slot[6] = 1;
             answer
         }
         (Fault::StoredUnjudged, 4) => another(0, old[4]),

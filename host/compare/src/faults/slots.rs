@@ -61,7 +61,7 @@ pub fn spoil_slot(fault: Fault, slot: &mut [u32], old: &[u32]) {
         Fault::OldRecords => {
             slot[RECORDS + 6 * records..PLACES].copy_from_slice(&old[RECORDS + 6 * records..PLACES])
         }
-        Fault::OldZeros => slot[5..8].copy_from_slice(&old[5..8]),
+        Fault::OldZeros => slot[6..8].copy_from_slice(&old[6..8]),
         Fault::IndentForgotten => indent_first_line(slot),
         Fault::LeftoverToLastGap => leftovers_to_last_gap(slot),
         Fault::FinalFlush if lines > 0 && slot[LINES + 3 * lines - 2] == slot[1] => {

@@ -1,0 +1,44 @@
+//! Sheets and refusals for the tests.
+
+// Each test file uses a part of these.
+#![allow(dead_code)]
+
+use gelumbrio::{Clinic, Edited, Refusal, Sheet, SlotNumber};
+
+pub const CLINIC: Clinic = Clinic(7);
+pub const SLOT: SlotNumber = SlotNumber(0);
+pub const K: [u32; 6] = [0x6F22, 19, 80, 80, 0, 0];
+
+/// A sheet of two slots, both taken.
+pub fn sheet(measure: u32) -> Sheet {
+    let mut sheet = Sheet::new(2).unwrap();
+    sheet.set_up(&[CLINIC, Clinic(9)], &[measure, 800], &[0, 0]).unwrap();
+    assert_eq!(sheet.take(CLINIC), Ok(SLOT));
+    assert_eq!(sheet.take(Clinic(9)), Ok(SlotNumber(1)));
+    sheet
+}
+
+/// What an edit says that is accepted.
+pub fn edited(lines: u32, redone: u32) -> Result<Edited, Refusal> {
+    Ok(Edited { lines, redone })
+}
+
+/// Six ideographs on two lines: line words 0, 440, 1 and 5, 80, 3.
+pub fn two_lines() -> Sheet {
+    let mut sheet = sheet(440);
+    assert_eq!(sheet.edit(CLINIC, SLOT, 0, 0, &[K; 6].concat()), edited(2, 2));
+    sheet
+}
+
+/// The sheet, one word of it another.
+pub fn damaged(sheet: &Sheet, at: usize, word: u32) -> Sheet {
+    let mut words = sheet.words().to_vec();
+    words[at] = word;
+    Sheet::from_words(words).unwrap()
+}
+
+/// Checks that a call is refused so.
+pub fn refused<T: std::fmt::Debug + PartialEq>(outcome: Result<T, Refusal>, number: u32, refusal: Refusal) {
+    assert_eq!(outcome, Err(refusal));
+    assert_eq!(refusal.number(), number, "{refusal:?}");
+}
