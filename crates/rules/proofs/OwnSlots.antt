@@ -51,7 +51,8 @@ module _ (settings : ℕ → Setting) (clinic : ℕ) where
         | inr l ↦ let e : i ≡ k = omega arith in absurd (g (subst FreeOf e f))
       ]
 
-  found-later : (k n : ℕ) {o : Option ℕ} → (FreeOf k → ⊥) → Found settings clinic (suc k) n o → Found settings clinic k (suc n) o
+  found-later : (k n : ℕ) {o : Option ℕ} → (FreeOf k → ⊥) → Found settings clinic (suc k) n o →
+      Found settings clinic k (suc n) o
   found-later k n g (found j h l f none-before) =
       found j (omega arith) (omega arith) f (λ i m p q. none-before i (later k n i g m q) p q)
   found-later k n g (not-found none-there) =

@@ -144,7 +144,8 @@ edit ws caller k place deleted inserted = onSlot asEdit ws caller k (λ s. editS
 unfoldable pub readRows : List ℕ → List (Bool × Answer)
 readRows s = (ltb 256 (lineCountOf s) || ltb 1 (inUseOf s), says 4 0) ∷ []
 
--- read: "0, or 1, 2, 3, then 4 if the stored line count exceeds 256", with 14 after 3, and an in-use word above 1 under 4
+-- read: "0, or 1, 2, 3, then 4 if the stored line count exceeds 256", with 14 after 3, and an in-use word above 1 under
+-- 4
 unfoldable pub readNumber : List ℕ → ℕ → ℕ → ℕ
 readNumber ws caller k = firstOf (callRows ws caller k ++ readRows (slotAt ws k)) (says 0 0) .number
 

@@ -24,8 +24,8 @@ use Rattle.rules.proofs.SlotWords.{length-slot, slot-setting, slot-fresh}
 
 -- Well-formed books -------------------------------------------------------------------------------------------------
 
--- a slot within its limits, whose records are at most 256 and fall under none of 8, 12, 9 and 10; one that is unassigned
--- or not in use has none
+-- a slot within its limits, whose records are at most 256 and fall under none of 8, 12, 9 and 10; one that is
+-- unassigned or not in use has none
 pub record Sound (s : BookSlot) : Type 0 where
   pub limits : slotLimitsOk (s .setting) ≡ true
   pub use-limits : s .setting .inUse ≤ 1

@@ -86,7 +86,8 @@ module _ (ws : List ℕ) (caller : ℕ) where
                   (lowest (settings ws) caller 0 (slotCount ws)) refl
             ]
         | inr e ↦
-            rw (taking-by (says 1 0) (answers-1 (length ws) caller (ownSlots ws caller) e) (λ y. omega arith)) (took-1 e)
+            rw (taking-by (says 1 0) (answers-1 (length ws) caller (ownSlots ws caller) e) (λ y. omega arith))
+            (took-1 e)
       ]
 
 -- a slot that is granted is the lowest free one

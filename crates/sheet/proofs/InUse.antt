@@ -198,7 +198,8 @@ module _ (ws : List ℕ) (caller k : ℕ) where
   given-emptied s z = rw (eq-eqb _ _ z)
 
   -- accepted, the slot is emptied
-  pub give-empties : givingBack ws caller k .0 .number ≡ 0 → slotAt (givingBack ws caller k .1) k ≡ emptied (slotAt ws k)
+  pub give-empties : givingBack ws caller k .0 .number ≡ 0 →
+      slotAt (givingBack ws caller k .1) k ≡ emptied (slotAt ws k)
   unfolding givingBack
   give-empties z =
       let y = reaches (on-cases (λ a. a) ws caller k giveBackSlot) z in

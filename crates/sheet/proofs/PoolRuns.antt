@@ -130,8 +130,8 @@ module _ (u : GiveBackRun) where
 
   pub run-as-edit : (e : EditRun) → Beside u e → giveReply u .number ≡ upTo4 (answer e .number)
   run-as-edit e b =
-      let f : Outcome EditAnswer → Type 0 = λ o. giveReply u .number ≡ upTo4 (o .0 .number) in
-      subst f (sym (e .learnt))
+      let edited = edit sheet (giver u .0) (givenSlot u .0) (place e) (deleted e) (inserted e) in
+      subst (λ (o : Outcome EditAnswer). giveReply u .number ≡ upTo4 (o .0 .number)) (sym (e .learnt))
       (rw (b .same-sheet, b .same-caller, b .same-slot)
-      (given (λ o. o .0 .number ≡ upTo4 (edit sheet (giver u .0) (givenSlot u .0) (place e) (deleted e) (inserted e) .0 .number))
+      (given (λ o. o .0 .number ≡ upTo4 (edited .0 .number))
       (as-edit sheet (giver u .0) (givenSlot u .0) (place e) (deleted e) (inserted e))))

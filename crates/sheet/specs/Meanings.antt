@@ -50,8 +50,8 @@ pub record AlikeOwn (caller : ℕ) (ws vs : List ℕ) : Type 0 where
   pub same-length : length ws ≡ length vs
   pub same-own : lengthOk (length ws) ≡ true → (caller ≡ 0 → ⊥) → ownSlots ws caller ≡ ownSlots vs caller
 
--- for a call: a set-up looks at the sheet's length alone, and "taking depends only on the caller, P and the caller's own
--- slots"
+-- for a call: a set-up looks at the sheet's length alone, and "taking depends only on the caller, P and the caller's
+-- own slots"
 abbrev pub AlikeFor : Call → List ℕ → List ℕ → Type 0
 AlikeFor (call-set-up cs ms xs) ws vs = length ws ≡ length vs
 AlikeFor (call-take c) ws vs = AlikeOwn (c .0) ws vs

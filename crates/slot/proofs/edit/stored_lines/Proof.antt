@@ -80,7 +80,8 @@ returns-5 c =
     let w = now (s .args .words) in
     let p = stored-paragraph w (s .pre) (d .if2 .left) in
     let z = c .if4 .left in
-    stored-sound w _ _ _ (records-tell-at h) (ap (judged (measureOf w) (indentOf w)) (sym p) ∙ k .check .ensures .answer) z
+    let a = ap (judged (measureOf w) (indentOf w)) (sym p) ∙ k .check .ensures .answer in
+    stored-sound w _ _ _ (records-tell-at h) a z
     (λ j l.
     k .check .ensures .first z j l ∙ ap (λ rs. start j (compose (measureOf w) (indentOf w) (units rs))) p)
 
