@@ -1,8 +1,8 @@
 -- What is proved of the calls on a sheet, in reading order: each claim is proved by one citation. All but the last
 -- speak of runs of the calls themselves, defined over their contracts in proofs/Runs.antt; what demand 3 says of a
--- sequence of runs is proofs/Booked.antt. The other words of the claims are defined in specs/Book.antt and
--- specs/Meanings.antt; the rules in crate `rules`, whose own proofs/Claims.antt has what is proved of them alone; what
--- a text spells and where it has its fault in crate `leaflet`, likewise. Assumes nothing.
+-- sequence of runs is proofs/Booked.antt. The other words of the claims are defined in specs/: Book, History, Meanings
+-- and FreeSlots; the rules in crate `rules`, whose own proofs/Claims.antt has what is proved of them alone; what a text
+-- spells and where it has its fault in crate `leaflet`, likewise. Assumes nothing.
 use mathlib.Core.Path.{_≡_, sym, ap}
 use Prim.Native.Nat.{ℕ, _*_, _/_, _<_}
 use mathlib.Core.Bool.{true, false}

@@ -20,6 +20,7 @@ pub mod Replacing
 pub mod ReadTexts
 pub mod SlotCalls
 pub mod InUse
+pub mod GivenBack
 pub mod Steps
 pub mod Stays
 pub mod Sequences

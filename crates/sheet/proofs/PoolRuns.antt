@@ -16,7 +16,7 @@ use Rattle.sheet.specs.FreeSlots.{Free, LowestFree, Takeable, OnlyTaken,
 use Rattle.sheet.proofs.Lengths.{whole}
 use Rattle.sheet.proofs.Entry.{in-use-at}
 use Rattle.sheet.proofs.Granting.{Took, took-1, took-3, took-13, took-0, took}
-use Rattle.sheet.proofs.InUse.{as-edit, give-place, give-empties}
+use Rattle.sheet.proofs.GivenBack.{as-edit, give-place, give-empties}
 use Rattle.sheet.proofs.Runs.{EditRun, place, deleted, inserted, answer, TakeRun, taker, takeReply}
 use Rattle.sheet.proofs.Runs.{GiveBackRun, giver, givenSlot, giveReply, givenBefore, givenAfter, Beside}
 
