@@ -56,9 +56,9 @@ next k (call-on c j q) a h = cond (accepted a && eqb (j .0) k) (nextBy q h) h
 
 -- after a sequence of calls and their replies
 abbrev pub historyFrom : ℕ → History → List Call → List Reply → History
-historyFrom k h [] rs = h
+historyFrom k h [] bs = h
 historyFrom k h (c ∷ cs) [] = h
-historyFrom k h (c ∷ cs) (a ∷ rs) = historyFrom k (next k c a h) cs rs
+historyFrom k h (c ∷ cs) (a ∷ bs) = historyFrom k (next k c a h) cs bs
 
 -- an import replaces all records
 abbrev pub made : SlotCall → List Rec → List Rec
