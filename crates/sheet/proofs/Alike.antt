@@ -3,23 +3,18 @@
 use mathlib.Core.Path.{_≡_, refl, sym, ap, _∙_}
 use Prim.Native.Nat.{ℕ, _/_}
 use mathlib.Core.Bool.{Bool, true, false, not, _||_}
-use mathlib.Core.List.{List, [], _∷_}
+use mathlib.Core.List.{List, []}
 use mathlib.Core.Logic.{inl, inr}
 use lib.Dec.{leb, eqb}
 use lib.ListN.{length}
 use borrow.Author.Tests.{eqb-true, eqb-false}
-use Rattle.rules.specs.Basics.{firstOf}
 use Rattle.rules.specs.Sheet.{clinicOf, inUseOf, slotCount, lengthOk, slotAt}
 use Rattle.rules.specs.Refusals.{Answer, says, Outcome, callRows, called, onSlot}
 use Rattle.rules.proofs.Facts.{tested}
 use Rattle.sheet.specs.Meanings.{beyond, Alike}
 use Rattle.sheet.proofs.Tables.{same-number, passed}
-use Rattle.sheet.proofs.Entry.{foreign, not-foreign, entered}
+use Rattle.sheet.proofs.Entry.{four, foreign, not-foreign, entered}
 use Rattle.sheet.proofs.OnSlot.{KeepsLength, on-slot, on-refusing}
-
--- the rows 1 to 3 and 14
-abbrev four : Bool → Bool → Bool → Bool → Answer
-four a b c d = firstOf ((a, says 1 0) ∷ (b, says 2 0) ∷ (c, says 3 0) ∷ (d, says 14 0) ∷ []) (says 0 0)
 
 -- a row is asked where none before it applies
 four-same : (a b c e d f : Bool) → (a || b ≡ false → c ≡ e) → (a || b ≡ false → c ≡ false → d ≡ f) →

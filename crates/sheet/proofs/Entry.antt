@@ -4,7 +4,7 @@ use mathlib.Core.Path.{_≡_, refl, sym, ap, _∙_}
 use Prim.Native.Nat.{ℕ, zero, suc, _+_, _-_, _*_, _≤_, _<_}
 use native.Mathlib.Nat.{add-zero}
 use native.Mathlib.Omega.{arith}
-use mathlib.Core.Bool.{Bool, true, false, cond, not, _||_}
+use mathlib.Core.Bool.{Bool, true, false, not, _||_}
 use mathlib.Core.List.{List, [], _∷_}
 use lib.Dec.{leb, eqb}
 use lib.ListN.{length, getD, take, drop}
@@ -12,7 +12,7 @@ use lib.Seq.{getD-take, getD-drop, take-take, drop-drop}
 use borrow.Rule.Slice.PartMut.{putMid}
 use borrow.Author.Tests.{leb-false, le-leb, lt-leb}
 use borrow.Author.Tests.{eqb-true, eqb-false, eq-eqb, ne-eqb, not-false}
-use Rattle.rules.specs.Basics.{within}
+use Rattle.rules.specs.Basics.{within, firstOf}
 use Rattle.rules.specs.Sheet.{clinicOf, inUseOf, slotCount, lengthOk, slotAt, withSlot}
 use Rattle.rules.specs.Refusals.{Answer, says, Outcome, callRows, called, onSlot}
 use Rattle.sheet.proofs.Tables.{passed}
@@ -48,6 +48,10 @@ pub record Entered (ws : List ℕ) (caller k : ℕ) : Type 0 where
   pub own : caller ≡ clinicOf (slotAt ws k)
   pub used : inUseOf (slotAt ws k) ≡ 0 → ⊥
 
+-- the answer of the rows 1 to 3 and 14, by their tests
+abbrev pub four : Bool → Bool → Bool → Bool → Answer
+four a b c d = firstOf ((a, says 1 0) ∷ (b, says 2 0) ∷ (c, says 3 0) ∷ (d, says 14 0) ∷ []) (says 0 0)
+
 module _ (ws : List ℕ) (caller k : ℕ) where
   abbrev pub foreign : Bool
   foreign = eqb caller 0 || not (eqb caller (clinicOf (slotAt ws k)))
@@ -57,7 +61,7 @@ module _ (ws : List ℕ) (caller k : ℕ) where
 
   -- by the tests of the four rows
   called-by : (a b c d : Bool) → not (lengthOk (length ws)) ≡ a → leb (slotCount ws) k ≡ b → foreign ≡ c → free ≡ d →
-      called ws caller k ≡ cond a (says 1 0) (cond b (says 2 0) (cond c (says 3 0) (cond d (says 14 0) (says 0 0))))
+      called ws caller k ≡ four a b c d
   unfolding called callRows
   called-by a b c d p q r t = rw (p, q, r, t)
 

@@ -1,20 +1,20 @@
 -- Laws of a giving back: its number beside an edit's, its place, and what it leaves. Assumes nothing.
 use mathlib.Core.Path.{_≡_, refl, sym, ap, _∙_}
 use Prim.Native.Nat.{ℕ}
-use mathlib.Core.Bool.{Bool, true, false, cond, not}
+use mathlib.Core.Bool.{Bool, true, false, not}
 use mathlib.Core.List.{List}
 use mathlib.Core.Logic.{inl, inr}
 use lib.Dec.{leb, eqb}
 use lib.ListN.{length}
 use borrow.Author.Tests.{eqb-true, eqb-false, eq-eqb, ne-eqb}
 use Rattle.rules.specs.Sheet.{inUseOf, slotCount, lengthOk, slotAt}
-use Rattle.rules.specs.Refusals.{Answer, says, EditAnswer, asEdit, Outcome, sound, slotRows, editSlot, edit}
+use Rattle.rules.specs.Refusals.{Answer, EditAnswer, asEdit, Outcome, sound, slotRows, editSlot, edit}
 use Rattle.rules.specs.Refusals.{callRows, called}
 use Rattle.rules.specs.Pool.{emptied, giveBackRows, giveBackSlot, givingBack}
 use Rattle.rules.proofs.Facts.{tested}
 use Rattle.sheet.specs.Book.{gives-back}
 use Rattle.sheet.specs.FreeSlots.{upTo4}
-use Rattle.sheet.proofs.Entry.{foreign}
+use Rattle.sheet.proofs.Entry.{four, foreign}
 use Rattle.sheet.proofs.OnSlot.{Done, entering, refusing, on-cases, on-entering, on-refusing, on-slot}
 use Rattle.sheet.proofs.NotGiven.{slot-not, slot-not-4}
 use Rattle.sheet.proofs.SlotChanges.{slot-unsound}
@@ -24,7 +24,7 @@ use Rattle.sheet.proofs.SlotCalls.{keeps}
 
 -- the rows 1 to 3 and 14 are up to 4, and name no place
 four-early : (a b c d : Bool) →
-    let r : Answer = cond a (says 1 0) (cond b (says 2 0) (cond c (says 3 0) (cond d (says 14 0) (says 0 0)))) in
+    let r = four a b c d in
     (r .number ≡ upTo4 (r .number)) × (r .place ≡ 0)
 four-early true b c d = (refl, refl)
 four-early false true c d = (refl, refl)

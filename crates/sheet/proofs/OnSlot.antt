@@ -7,15 +7,14 @@ use mathlib.Core.Bool.{cond}
 use mathlib.Core.List.{List}
 use mathlib.Core.Logic.{inl, inr}
 use lib.Dec.{eqb}
-use lib.ListN.{length, getD, drop, length-drop}
-use lib.Seq.{length-take-le}
+use lib.ListN.{length, getD}
 use borrow.Author.Tests.{eqb-true, eqb-false, eq-eqb, ne-eqb}
 use Rattle.rules.specs.Sheet.{slotAt, withSlot}
 use Rattle.rules.specs.Refusals.{Answer, Outcome, called, onSlot}
 use Rattle.rules.proofs.Facts.{tested}
 use Rattle.sheet.specs.Meanings.{Outside}
 use Rattle.sheet.proofs.Entry.{entered}
-use Rattle.sheet.proofs.Parts.{length-with, slot-with, word-with, put-back}
+use Rattle.sheet.proofs.Parts.{length-with, slot-with, word-with, length-at, put-back}
 
 -- what is done on a slot leaves 2,824 words of 2,824
 abbrev pub KeepsLength : {A : Type 0} → (List ℕ → Outcome A) → Type 0
@@ -31,7 +30,7 @@ module _ (ws : List ℕ) (caller k : ℕ) (z : called ws caller k .number ≡ 0)
   room = let e = entered ws caller k z in omega (arith, e .within, e .whole .exact)
 
   pub length-slot-at : length (slotAt ws k) ≡ 2824
-  length-slot-at = length-take-le 2824 (drop (2824 * k) ws) (rw length-drop (omega (arith, room)))
+  length-slot-at = length-at ws k room
 
 module _ {A : Type 0} (refused : Answer → A) (ws : List ℕ) (caller k : ℕ) (f : List ℕ → Outcome A) where
   abbrev out : Outcome A

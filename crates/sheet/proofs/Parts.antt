@@ -45,6 +45,10 @@ module _ (ws : List ℕ) (k : ℕ) (s : List ℕ) (within : 2824 * k + 2824 ≤ 
       ∙ getD-drop (2824 * k) ws (2824 + j) 0
       ∙ ap (λ n. getD ws n 0) (sym f)
 
+-- a slot for which there is room has all its words
+pub length-at : (ws : List ℕ) (k : ℕ) → 2824 * k + 2824 ≤ length ws → length (slotAt ws k) ≡ 2824
+length-at ws k room = length-take-le 2824 (drop (2824 * k) ws) (rw length-drop (omega arith))
+
 -- slots of two sheets of one length, whose words there are the same
 pub slot-by-words : (ws vs : List ℕ) (k : ℕ) → length ws ≡ length vs →
     ((j : ℕ) → j < 2824 → getD ws (2824 * k + j) 0 ≡ getD vs (2824 * k + j) 0) → slotAt ws k ≡ slotAt vs k
@@ -80,5 +84,5 @@ slot-beside ws k s within whole j other =
 pub set-in-slot : (ws : List ℕ) (k j a : ℕ) → 2824 * k + 2824 ≤ length ws → j < 2824 →
     set ws (2824 * k + j) a ≡ withSlot ws k (set (slotAt ws k) j a)
 set-in-slot ws k j a within h =
-    let whole = length-take-le 2824 (drop (2824 * k) ws) (rw length-drop (omega arith)) in
+    let whole = length-at ws k within in
     sym (set-mid-at (2824 * k) 2824 j ws a (omega (arith, whole)))

@@ -7,8 +7,8 @@ use mathlib.Core.Bool.{true, cond}
 use mathlib.Core.List.{List, map}
 use mathlib.Core.Logic.{inl, inr}
 use lib.Dec.{eqb}
-use lib.ListN.{length, set, drop, length-set, length-drop}
-use lib.Seq.{length-take-le, getD-set-same, getD-set-other}
+use lib.ListN.{length, set, length-set}
+use lib.Seq.{getD-set-same, getD-set-other}
 use borrow.Author.Tests.{eqb-true, eqb-false, eq-eqb, ne-eqb}
 use Rattle.rules.specs.Sheet.{withUse, settingOf, slotCount, lengthOk, slotAt, withSlot}
 use Rattle.rules.specs.Refusals.{Answer, Outcome}
@@ -17,7 +17,7 @@ use Rattle.rules.proofs.Facts.{tested}
 use Rattle.sheet.specs.Meanings.{AlikeOwn}
 use Rattle.sheet.proofs.Tables.{same-number}
 use Rattle.sheet.proofs.Lengths.{whole}
-use Rattle.sheet.proofs.Parts.{slot-with, slot-beside, set-in-slot}
+use Rattle.sheet.proofs.Parts.{slot-with, length-at, slot-beside, set-in-slot}
 use Rattle.rules.proofs.OwnSlots.{takenAt, own-taken}
 use Rattle.sheet.proofs.Granting.{settings, answers-1, answers-3, took, granted-lowest}
 
@@ -30,11 +30,8 @@ module _ (ws : List ℕ) (k : ℕ) (room : 2824 * k + 2824 ≤ length ws) where
   in-slot : taken ≡ withSlot ws k (set (slotAt ws k) 5 1)
   in-slot = set-in-slot ws k 5 1 room (omega arith)
 
-  length-slot-at : length (slotAt ws k) ≡ 2824
-  length-slot-at = length-take-le 2824 (drop (2824 * k) ws) (rw length-drop (omega arith))
-
   length-taken : length (set (slotAt ws k) 5 1) ≡ 2824
-  length-taken = length-set (slotAt ws k) 5 1 ∙ length-slot-at
+  length-taken = length-set (slotAt ws k) 5 1 ∙ length-at ws k room
 
   pub taken-slot : slotAt taken k ≡ set (slotAt ws k) 5 1
   taken-slot = ap (λ l. slotAt l k) in-slot ∙ slot-with ws k (set (slotAt ws k) 5 1) room length-taken
@@ -57,7 +54,7 @@ module _ (ws : List ℕ) (k : ℕ) (room : 2824 * k + 2824 ≤ length ws) where
       elim (tested (eqb j k)) [
         | inl e ↦
             let same = eqb-true j k e in
-            rw (e, same) (ap settingOf taken-slot ∙ used-setting (slotAt ws k) length-slot-at)
+            rw (e, same) (ap settingOf taken-slot ∙ used-setting (slotAt ws k) (length-at ws k room))
         | inr e ↦ rw e (ap settingOf (taken-beside j (eqb-false j k e)))
       ]
 
