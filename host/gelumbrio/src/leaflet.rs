@@ -162,8 +162,14 @@ fn is_later_byte(byte: u8) -> bool {
 impl fmt::Display for LeafletFault {
     fn fmt(&self, f: &mut fmt::Formatter<'_>) -> fmt::Result {
         let LeafletFault { offset, line, column, found } = self;
-        write!(f, "line {line}, column {column} of the leaflet (byte {offset}): ")?;
-        match found {
+        write!(f, "line {line}, column {column} of the leaflet (byte {offset}): {found}")
+    }
+}
+
+/// Why it cannot stand there.
+impl fmt::Display for Found {
+    fn fmt(&self, f: &mut fmt::Formatter<'_>) -> fmt::Result {
+        match self {
             Found::Character('>') => f.write_str("'>' may stand in a tag only"),
             Found::Character('&') => f.write_str("'&' may not stand in a leaflet"),
             Found::Character(character) => {

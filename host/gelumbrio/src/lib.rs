@@ -75,6 +75,7 @@ mod leaflet;
 pub mod raw;
 mod refusal;
 mod sheet;
+mod slot;
 
 pub use leaflet::{Excerpt, Found, LeafletFault};
 pub use raw::{Clinic, SlotNumber};
@@ -82,6 +83,7 @@ pub use refusal::Refusal;
 pub use sheet::{
     Edited, Kind, Line, Sheet, LINES_AT, MAX_SLOTS, PLACES_AT, RECORDS_AT, RECORD_WORDS, SLOT_WORDS,
 };
+pub use slot::{Record, Slot};
 
 /// The offset of the k-th ruby character from the start of its group, `k` counted from 0.
 ///

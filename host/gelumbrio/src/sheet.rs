@@ -3,6 +3,7 @@
 use crate::leaflet::LeafletFault;
 use crate::raw::{self, Clinic, SlotNumber};
 use crate::refusal::Refusal;
+use crate::slot::Slot;
 
 /// The most slots a sheet may have.
 pub const MAX_SLOTS: usize = 64;
@@ -16,8 +17,6 @@ pub const RECORDS_AT: usize = 8;
 pub const PLACES_AT: usize = RECORDS_AT + 256 * RECORD_WORDS;
 /// Where a slot's lines start.
 pub const LINES_AT: usize = PLACES_AT + 256 * 2;
-
-const RECORD_COUNT_AT: usize = 3;
 
 /// A sheet of 1 to 64 slots. A program should hold at most 5 on one sheet.
 #[derive(Debug, Clone, PartialEq, Eq)]
@@ -100,6 +99,27 @@ impl Sheet {
     /// All words of the sheet.
     pub fn words(&self) -> &[u32] {
         &self.words
+    }
+
+    /// What a slot's words say, whoever asks. It judges nothing; [`lines`](Sheet::lines) does.
+    ///
+    /// ```
+    /// use gelumbrio::{Clinic, Sheet, SlotNumber};
+    ///
+    /// let mut sheet = Sheet::new(1)?;
+    /// sheet.set_up(&[Clinic(7)], &[440], &[80])?;
+    /// let slot = sheet.take(Clinic(7))?;
+    /// sheet.import(Clinic(7), slot, 80, "1錠")?;
+    ///
+    /// let slot = sheet.slot(slot).expect("a slot of the sheet");
+    /// assert_eq!((slot.clinic(), slot.measure(), slot.indent(), slot.in_use()), (Clinic(7), 440, 80, 1));
+    /// assert_eq!(slot.records().map(|record| record.class).collect::<Vec<_>>(), [27, 19]);
+    /// assert!(sheet.slot(SlotNumber(1)).is_none());
+    /// # Ok::<(), gelumbrio::Refusal>(())
+    /// ```
+    pub fn slot(&self, slot: SlotNumber) -> Option<Slot<'_>> {
+        let (slots, _) = self.words.as_chunks::<SLOT_WORDS>();
+        slots.get(slot.0 as usize).map(Slot::new)
     }
 
     /// All words of the sheet, to be kept.
@@ -251,10 +271,9 @@ impl Sheet {
     }
 
     fn typed_lines(&self, lines: &[u32], slot: SlotNumber) -> Option<Vec<Line>> {
-        let (slots, _) = self.words.as_chunks::<SLOT_WORDS>();
-        let slot = slots.get(slot.0 as usize)?;
-        let (places, _) = slot[PLACES_AT..LINES_AT].as_chunks::<2>();
-        let places = places.get(..slot[RECORD_COUNT_AT] as usize)?;
+        let slot = self.slot(slot)?;
+        let (places, _) = slot.words()[PLACES_AT..LINES_AT].as_chunks::<2>();
+        let places = places.get(..slot.record_count() as usize)?;
 
         let (lines, _) = lines.as_chunks::<3>();
         // A line ends where the next one starts, the last at the record count.
