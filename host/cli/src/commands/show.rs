@@ -1,0 +1,140 @@
+//! `show`: a slot of a sheet; and how a paragraph is shown, whichever command has it.
+
+use std::fs;
+use std::path::{Path, PathBuf};
+
+use gelumbrio::{Sheet, SlotNumber};
+
+use super::Done;
+use crate::arguments::{Arguments, Grammar};
+use crate::failure::Failure;
+use crate::files::Staged;
+use crate::leaflet::{Element, Leaflet, Reading};
+use crate::paragraph::{groups_of, Paragraph};
+use crate::refusals::{no_leaflet, Call};
+use crate::style::Style;
+use crate::{json, picture, scratch, sheet_file, terminal};
+
+pub const GRAMMAR: Grammar = Grammar {
+    command: "show",
+    once: &["clinic", "slot", "leaflet", "svg", "html"],
+    often: &[],
+    flags: &["marks", "json"],
+    operands: &["FILE"],
+    optional: 0,
+};
+
+/// In what forms a paragraph is wanted.
+#[derive(Debug)]
+pub struct Forms {
+    svg: Option<PathBuf>,
+    html: Option<PathBuf>,
+    json: bool,
+    marks: bool,
+}
+
+impl Forms {
+    /// The forms that the arguments name.
+    pub fn of(arguments: &Arguments) -> Result<Forms, Failure> {
+        for option in ["svg", "html"] {
+            if arguments.path(option).is_some_and(|path| path.as_os_str() == "-") {
+                return Err(arguments.wrong(format!("--{option} needs a file's name")));
+            }
+        }
+        let (svg, html) = (arguments.path("svg"), arguments.path("html"));
+        if svg.is_some() && svg == html {
+            return Err(arguments.wrong("--svg and --html name one file"));
+        }
+        Ok(Forms { svg, html, json: arguments.has("json"), marks: arguments.has("marks") })
+    }
+
+    /// Writes the files that are wanted, and says the rest. Either all files are put in place or, where one cannot be
+    /// written, none is. No file is put in the place of one that was read.
+    pub fn show(&self, paragraph: &Paragraph, title: &str, read: &[&Path]) -> Result<Done, Failure> {
+        let mut staged = Vec::new();
+        for (path, picture) in [(&self.svg, picture::svg as Draw), (&self.html, picture::html as Draw)] {
+            let Some(path) = path else { continue };
+            if read.iter().any(|read| is_same(read, path)) {
+                let what = format!("{} was read, and would be lost", path.display());
+                return Err(Failure::plain(what).advising("Name another file for the picture."));
+            }
+            staged.push(Staged::new(path, picture(paragraph, title, self.marks).as_bytes())?);
+        }
+        staged.into_iter().try_for_each(Staged::put_in_place)?;
+        Ok(Done::saying(match self.json {
+            true => json::json(paragraph),
+            false => terminal::lines(paragraph, self.marks, Style::of(&std::io::stdout())),
+        }))
+    }
+}
+
+/// Draws a picture of a paragraph, with a title, and with marks or without.
+type Draw = fn(&Paragraph, &str, bool) -> String;
+
+/// Whether two paths name one file.
+fn is_same(left: &Path, right: &Path) -> bool {
+    fs::canonicalize(left).is_ok_and(|left| fs::canonicalize(right).is_ok_and(|right| left == right))
+}
+
+/// Shows a slot.
+pub fn run(mut arguments: Arguments) -> Result<Done, Failure> {
+    let forms = Forms::of(&arguments)?;
+    let (clinic, slot) = (arguments.clinic()?, arguments.slot()?);
+    let named = arguments.path("leaflet");
+    let leaflet = named.as_ref().map(|path| Leaflet::read(path.as_os_str())).transpose()?;
+    let file = arguments.file();
+    let sheet = sheet_file::read(&file)?;
+    let call = Call { file: &file, sheet: &sheet, clinic, slot };
+
+    // The read's own refusals; its lines are looked at below.
+    if let Err(refusal) = sheet.read(clinic, slot) {
+        return Err(call.refused(refusal));
+    }
+    let (sheet, notes) = composed(call)?;
+    let elements = leaflet.map(|leaflet| elements(&sheet, slot, &leaflet)).transpose()?;
+    let paragraph = Paragraph::of(&sheet, clinic, slot, elements.as_deref());
+    let paragraph = paragraph.map_err(|refusal| call.refused(refusal))?;
+    let title = format!("{}, slot {}", file.display(), slot.0);
+    let read: Vec<&Path> = [Some(file.as_path()), named.as_deref()].into_iter().flatten().collect();
+    let Done { said, .. } = forms.show(&paragraph, &title, &read)?;
+    Ok(Done { said, notes })
+}
+
+/// The sheet with the slot as the rules compose its records, and a note where it was not so.
+fn composed(call: Call<'_>) -> Result<(Sheet, Vec<String>), Failure> {
+    let Call { file, sheet, clinic, slot } = call;
+    let mut composed = sheet.clone();
+    composed.edit(clinic, slot, 0, 0, &[]).map_err(|refusal| call.refused(refusal))?;
+    if composed == *sheet {
+        return Ok((composed, Vec::new()));
+    }
+    let note = format!(
+        "the lines that slot {0} holds are not those of the rules; these are. \
+         `gelumbrio edit {1} --clinic {2} --slot {0} --at 0` stores them.",
+        slot.0,
+        file.display(),
+        clinic.0
+    );
+    Ok((composed, vec![note]))
+}
+
+/// The ruby elements of a leaflet that reads as the slot's records, whatever their sizes.
+fn elements(sheet: &Sheet, slot: SlotNumber, leaflet: &Leaflet) -> Result<Vec<Element>, Failure> {
+    if let Some(fault) = scratch::leaflet_fault(leaflet.text()) {
+        return Err(no_leaflet(fault, leaflet));
+    }
+    let reading = Reading::of(leaflet.text());
+    let records: Vec<_> = sheet.slot(slot).into_iter().flat_map(|slot| slot.records()).collect();
+    let characters = reading.letters.iter().map(|letter| u32::from(letter.character));
+    let is_same_text = records.iter().map(|record| record.code_point).eq(characters);
+    let groups =
+        groups_of(&records).into_iter().map(|(first, length)| (first, length, records[first].ruby_count));
+    let elements = reading.elements.iter();
+    let is_same_ruby =
+        groups.eq(elements.map(|element| (element.first, element.length, element.ruby.len() as u32)));
+    match is_same_text && is_same_ruby {
+        true => Ok(reading.elements),
+        false => Err(Failure::plain(format!("{} is not the text of slot {}", leaflet.name(), slot.0))
+            .advising("Without --leaflet the slot is shown with marks where its ruby stands.")),
+    }
+}

@@ -1,0 +1,139 @@
+//! Files that are replaced whole or not at all.
+//!
+//! A file's new content is written beside it, synced and renamed over it, so a program that is killed leaves the old
+//! file or the new one.
+
+use std::ffi::{OsStr, OsString};
+use std::fs::{self, File, Metadata, OpenOptions, Permissions};
+use std::io::{self, Write};
+use std::os::unix::fs::{fchown, MetadataExt, PermissionsExt};
+use std::path::{Path, PathBuf};
+use std::process;
+
+use crate::failure::Failure;
+
+/// How the name of a file ends that is not in place yet.
+const ENDING: &str = ".gelumbrio-new";
+
+/// A file that is written and not yet in place. It is removed again unless it is put there.
+#[derive(Debug)]
+pub struct Staged {
+    written: PathBuf,
+    target: PathBuf,
+}
+
+impl Staged {
+    /// Writes what is to stand at this path, in a file beside it.
+    pub fn new(path: &Path, content: &[u8]) -> Result<Staged, Failure> {
+        Staged::write(path, content).map_err(|error| Failure::writing(path.display(), &error))
+    }
+
+    fn write(path: &Path, content: &[u8]) -> io::Result<Staged> {
+        let target = target(path)?;
+        let old = fs::metadata(&target).ok();
+        if old.as_ref().is_some_and(|old| !old.is_file()) {
+            return Err(io::Error::other("it is there, and is no file that could be replaced"));
+        }
+        let (staged, mut file) = Staged::beside(target)?;
+        file.write_all(content)?;
+        if let Some(old) = old {
+            keep_access(&file, &old)?;
+        }
+        file.sync_all()?;
+        Ok(staged)
+    }
+
+    /// A new file beside another, under a name that nobody else has.
+    fn beside(target: PathBuf) -> io::Result<(Staged, File)> {
+        let folder = folder(&target);
+        let mut attempt = 0;
+        loop {
+            let mut name = beginning(&target)?;
+            name.push(format!("{}-{attempt}{ENDING}", process::id()));
+            let written = folder.join(name);
+            match OpenOptions::new().write(true).create_new(true).open(&written) {
+                Ok(file) => return Ok((Staged { written, target }, file)),
+                // It was left by a program of this number that was killed.
+                Err(error) if error.kind() == io::ErrorKind::AlreadyExists => attempt += 1,
+                Err(error) => return Err(error),
+            }
+        }
+    }
+
+    /// Puts the file in its place, over the one that is there.
+    pub fn put_in_place(self) -> Result<(), Failure> {
+        fs::rename(&self.written, &self.target).map_err(|error| self.failure(&error))?;
+        settle(&self.target);
+        Ok(())
+    }
+
+    /// Puts the file in its place, unless there is one: renaming would replace it, and a link never does.
+    pub fn put_in_free_place(self) -> Result<(), Failure> {
+        fs::hard_link(&self.written, &self.target).map_err(|error| self.failure(&error))?;
+        settle(&self.target);
+        Ok(())
+    }
+
+    fn failure(&self, error: &io::Error) -> Failure {
+        Failure::writing(self.target.display(), error)
+    }
+}
+
+impl Drop for Staged {
+    /// Takes the name away under which it was written. What is in place has lost that name, or has another beside it.
+    fn drop(&mut self) {
+        let _ = fs::remove_file(&self.written);
+    }
+}
+
+/// The file that a path names, links followed, so that a link to it stays one.
+pub fn target(path: &Path) -> io::Result<PathBuf> {
+    match fs::canonicalize(path) {
+        Err(error) if error.kind() == io::ErrorKind::NotFound => {
+            let name = path.file_name().ok_or_else(|| io::Error::from(io::ErrorKind::NotFound))?;
+            Ok(fs::canonicalize(folder(path))?.join(name))
+        }
+        found => found,
+    }
+}
+
+/// Removes what killed programs have left beside a file, as far as that can be done. Nobody else may be writing there
+/// meanwhile.
+pub fn sweep(target: &Path) {
+    let (Ok(beginning), Ok(entries)) = (beginning(target), fs::read_dir(folder(target))) else { return };
+    for entry in entries.flatten() {
+        let name = entry.file_name();
+        let bytes = name.as_encoded_bytes();
+        if bytes.starts_with(beginning.as_encoded_bytes()) && bytes.ends_with(ENDING.as_bytes()) {
+            let _ = fs::remove_file(entry.path());
+        }
+    }
+}
+
+/// How the names of files beside this one begin.
+fn beginning(target: &Path) -> io::Result<OsString> {
+    let name = target.file_name().ok_or_else(|| io::Error::other("it has no name of a file"))?;
+    Ok([OsStr::new("."), name, OsStr::new(".")].into_iter().collect())
+}
+
+fn folder(path: &Path) -> &Path {
+    match path.parent() {
+        Some(folder) if folder != Path::new("") => folder,
+        _ => Path::new("."),
+    }
+}
+
+/// Lets the same people read and write a new file as an old one.
+fn keep_access(file: &File, old: &Metadata) -> io::Result<()> {
+    // One who may write the file may not always give it away; the rest of its permissions are kept then.
+    let _ = fchown(file, None, Some(old.gid()));
+    file.set_permissions(Permissions::from_mode(old.mode() & 0o777))
+}
+
+/// Makes a new name last through a power failure. Where a system cannot, the old name's file or the new one's is there
+/// all the same.
+fn settle(path: &Path) {
+    if let Ok(folder) = File::open(folder(path)) {
+        let _ = folder.sync_all();
+    }
+}

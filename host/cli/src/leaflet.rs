@@ -1,0 +1,205 @@
+//! A leaflet's file, and what the characters of an accepted leaflet became (document 02, request 05).
+
+use std::ffi::OsStr;
+use std::fs::File;
+use std::io::{self, Read};
+use std::path::Path;
+
+use crate::failure::{Failure, Spot};
+
+/// A leaflet's text, and what its file is called.
+#[derive(Debug)]
+pub struct Leaflet {
+    name: String,
+    text: Vec<u8>,
+}
+
+/// What an accepted leaflet reads as. Of its characters outside rt and rp, number i is record i.
+#[derive(Debug, Default, PartialEq, Eq)]
+pub struct Reading {
+    /// The characters that became records.
+    pub letters: Vec<Letter>,
+    /// Its ruby elements.
+    pub elements: Vec<Element>,
+}
+
+/// A character of a leaflet.
+#[derive(Debug, Clone, Copy, PartialEq, Eq)]
+pub struct Letter {
+    /// The character.
+    pub character: char,
+    /// Its place in the text, in bytes.
+    pub offset: usize,
+}
+
+/// A ruby element: a group of records and the characters over it.
+#[derive(Debug, Clone, PartialEq, Eq)]
+pub struct Element {
+    /// The first record of its base.
+    pub first: usize,
+    /// How many records its base has.
+    pub length: usize,
+    /// The characters of its rt.
+    pub ruby: Vec<char>,
+}
+
+/// In bytes: far more than a slot's 256 characters need, far less than would not fit in memory.
+const LONGEST: u64 = 16 << 20;
+
+impl Leaflet {
+    /// Reads a file, or standard input where its name is `-`.
+    ///
+    /// A byte order mark at its start and the end of its last line belong to the file: programs that write texts put
+    /// them there, and people do not see them.
+    pub fn read(name: &OsStr) -> Result<Leaflet, Failure> {
+        let (bytes, shown) = match name == "-" {
+            true => (read_all(io::stdin().lock()), "standard input".to_string()),
+            false => (File::open(name).and_then(read_all), Path::new(name).display().to_string()),
+        };
+        let bytes = bytes.map_err(|error| Failure::reading(&shown, &error))?;
+        if bytes.len() as u64 > LONGEST {
+            let what = format!("{shown} has more than {} MB, and a leaflet 256 characters", LONGEST >> 20);
+            return Err(Failure::plain(what).advising("Is it the right file?"));
+        }
+        Ok(Leaflet { name: shown, text: without_marks(bytes) })
+    }
+
+    /// What the file is called.
+    pub fn name(&self) -> &str {
+        &self.name
+    }
+
+    /// The leaflet's text.
+    pub fn text(&self) -> &[u8] {
+        &self.text
+    }
+
+    /// A place in the text, for a person: so many characters from this byte on.
+    pub fn spot(&self, offset: usize, length: usize) -> Spot {
+        let (before, after) = self.text.split_at(offset.min(self.text.len()));
+        let (before, after) = (String::from_utf8_lossy(before), String::from_utf8_lossy(after));
+        let starts: Vec<&str> = lines(&before);
+        let start = *starts.last().expect("a text has a line");
+        let column = start.chars().count();
+        let rest = lines(&after)[0];
+        Spot {
+            name: format!("{}, line {}, column {}", self.name, starts.len(), column + 1),
+            line: format!("{start}{rest}"),
+            before: column,
+            length,
+        }
+    }
+}
+
+fn read_all(from: impl Read) -> io::Result<Vec<u8>> {
+    let mut bytes = Vec::new();
+    from.take(LONGEST + 1).read_to_end(&mut bytes)?;
+    Ok(bytes)
+}
+
+/// The text without a byte order mark at its start and without the end of its last line.
+fn without_marks(mut bytes: Vec<u8>) -> Vec<u8> {
+    if bytes.ends_with(b"\n") {
+        bytes.pop();
+        if bytes.ends_with(b"\r") {
+            bytes.pop();
+        }
+    }
+    if bytes.starts_with("\u{FEFF}".as_bytes()) {
+        bytes.drain(..'\u{FEFF}'.len_utf8());
+    }
+    bytes
+}
+
+/// The lines of a text, at least one. LF, CR LF and CR end a line.
+fn lines(text: &str) -> Vec<&str> {
+    let mut lines = Vec::new();
+    let mut rest = text;
+    while let Some(at) = rest.find(['\n', '\r']) {
+        lines.push(&rest[..at]);
+        let end = if rest[at..].starts_with("\r\n") { 2 } else { 1 };
+        rest = &rest[at + end..];
+    }
+    lines.push(rest);
+    lines
+}
+
+impl Reading {
+    /// What a leaflet reads as that the library has accepted: it is UTF-8, and its tags stand where they may.
+    pub fn of(text: &[u8]) -> Reading {
+        let mut reading = Reading::default();
+        let text = String::from_utf8_lossy(text);
+        let mut rest = &*text;
+        while let Some(character) = rest.chars().next() {
+            let offset = text.len() - rest.len();
+            if let Some(after) = rest.strip_prefix("<ruby>") {
+                let first = reading.letters.len();
+                reading.elements.push(Element { first, length: 0, ruby: Vec::new() });
+                rest = after;
+            } else if let Some((inside, after)) = element(rest, "rt") {
+                if let Some(open) = reading.elements.last_mut() {
+                    open.ruby = inside.chars().collect();
+                }
+                rest = after;
+            } else if let Some((_, after)) = element(rest, "rp") {
+                rest = after;
+            } else if let Some(after) = rest.strip_prefix("</ruby>") {
+                if let Some(open) = reading.elements.last_mut() {
+                    open.length = reading.letters.len() - open.first;
+                }
+                rest = after;
+            } else {
+                reading.letters.push(Letter { character, offset });
+                rest = &rest[character.len_utf8()..];
+            }
+        }
+        reading
+    }
+}
+
+/// What stands in the element of this name with which a text starts, and what after it.
+fn element<'a>(text: &'a str, name: &str) -> Option<(&'a str, &'a str)> {
+    text.strip_prefix(&format!("<{name}>"))?.split_once(&format!("</{name}>"))
+}
+
+#[cfg(test)]
+mod tests {
+    use super::*;
+
+    fn spot(text: &str, offset: usize) -> (String, String, usize) {
+        let leaflet = Leaflet { name: "x".to_string(), text: text.as_bytes().to_vec() };
+        let spot = leaflet.spot(offset, 1);
+        (spot.name, spot.line, spot.before)
+    }
+
+    #[test]
+    fn a_place_has_a_line_and_a_column() {
+        let at = |line, column| format!("x, line {line}, column {column}");
+        assert_eq!(spot("食後", 3), (at(1, 2), "食後".to_string(), 1));
+        assert_eq!(spot("食後", 6), (at(1, 3), "食後".to_string(), 2));
+        assert_eq!(spot("食\n後に\r\n薬", 7), (at(2, 2), "後に".to_string(), 1));
+        assert_eq!(spot("食\r後", 4), (at(2, 1), "後".to_string(), 0));
+        assert_eq!(spot("", 0), (at(1, 1), String::new(), 0));
+        // The line's end itself is the last place of its line.
+        assert_eq!(spot("食\n後", 3), (at(1, 2), "食".to_string(), 1));
+    }
+
+    #[test]
+    fn a_file_has_marks_that_a_leaflet_has_not() {
+        for file in ["食", "食\n", "食\r\n", "\u{FEFF}食\n"] {
+            assert_eq!(without_marks(file.as_bytes().to_vec()), "食".as_bytes(), "{file:?}");
+        }
+        assert_eq!(without_marks(b"\n\n".to_vec()), b"\n");
+        assert_eq!(without_marks(b"\r".to_vec()), b"\r");
+        assert_eq!(without_marks(Vec::new()), b"");
+    }
+
+    #[test]
+    fn letters_are_records_and_elements_groups() {
+        let reading = Reading::of("は<ruby>頓服<rp>（</rp><rt>とん</rt><rp></rp></ruby>、".as_bytes());
+        let letters = [('は', 0), ('頓', 9), ('服', 12), ('、', 58)];
+        assert_eq!(reading.letters, letters.map(|(character, offset)| Letter { character, offset }));
+        assert_eq!(reading.elements, [Element { first: 1, length: 2, ruby: vec!['と', 'ん'] }]);
+        assert_eq!(Reading::of(b""), Reading::default());
+    }
+}

@@ -1,0 +1,254 @@
+//! What a refusal means to a person, and what is to be done.
+
+use std::path::Path;
+
+use gelumbrio::{class_of, Clinic, Found, LeafletFault, Record, Refusal, Sheet, SlotNumber};
+
+use crate::characters::named;
+use crate::check;
+use crate::failure::{Failure, Refused, Spot};
+use crate::leaflet::{Leaflet, Reading};
+use crate::scratch;
+
+/// A call on a slot of a sheet in a file.
+#[derive(Debug, Clone, Copy)]
+pub struct Call<'a> {
+    /// The sheet's file.
+    pub file: &'a Path,
+    /// The sheet as it was called.
+    pub sheet: &'a Sheet,
+    /// Who called.
+    pub clinic: Clinic,
+    /// The slot that was called.
+    pub slot: SlotNumber,
+}
+
+/// A leaflet put in place of a stretch of records.
+#[derive(Debug)]
+pub struct Change<'a> {
+    /// The leaflet, where there is one.
+    pub leaflet: Option<&'a Leaflet>,
+    /// What it reads as.
+    pub reading: Reading,
+    /// The size of its characters.
+    pub size: u32,
+    /// The number that its first record has.
+    pub at: usize,
+    /// All records that would result.
+    pub records: Vec<Record>,
+}
+
+/// A refused change of a slot: by what the sheet is and holds, or by the records that would result.
+pub fn of_change(call: Call<'_>, change: &Change<'_>, refusal: Refusal) -> Failure {
+    match (refusal.number(), call.sheet.slot(call.slot)) {
+        (7 | 8 | 9 | 10 | 12, Some(slot)) => change.refused(refusal, slot.measure(), slot.indent()),
+        _ => call.refused(refusal),
+    }
+}
+
+impl Call<'_> {
+    /// A refusal by what the sheet is and holds.
+    pub fn refused(self, refusal: Refusal) -> Failure {
+        let Call { file, sheet, clinic: Clinic(clinic), slot } = self;
+        let (file, number) = (file.display(), slot.0);
+        let (what, advice) = match refusal {
+            Refusal::Slot => (
+                format!("{file} has no slot {number}"),
+                format!(
+                    "Its slots are 0 to {}; `gelumbrio sheet check {file}` lists them.",
+                    sheet.slots() - 1
+                ),
+            ),
+            Refusal::Caller if clinic == 0 => {
+                ("clinic 0 is nobody, and has no slot".to_string(), "Clinics are 1 to 65,535.".to_string())
+            }
+            Refusal::Caller => (
+                format!("slot {number} of {file} is not clinic {clinic}'s"),
+                format!("`gelumbrio sheet check {file}` lists whose each slot is."),
+            ),
+            Refusal::NoneFree => (
+                format!("clinic {clinic} has no free slot in {file}"),
+                format!("`gelumbrio give {file} --clinic {clinic} --slot ..` empties one and frees it."),
+            ),
+            Refusal::NotInUse => (
+                format!("slot {number} of {file} is not in use"),
+                format!("`gelumbrio take {file} --clinic {clinic}` takes the clinic's lowest free slot."),
+            ),
+            Refusal::Damaged => {
+                let damage = sheet.slot(slot).and_then(check::damage);
+                let why = damage.clone().unwrap_or_else(|| "it has more than 256 lines".to_string());
+                let mending = match damage {
+                    Some(_) => "Only a new sheet mends it, or an older copy of the file.".to_string(),
+                    None => {
+                        format!("`gelumbrio edit {file} --clinic {clinic} --slot {number} --at 0` mends it.")
+                    }
+                };
+                (format!("slot {number} of {file} is damaged: {why}"), mending)
+            }
+            Refusal::PastEnd { count } => (
+                format!("the edit reaches past the end of slot {number}, which has {count} records"),
+                format!("A place is 0 to {count}, and what is deleted must be there."),
+            ),
+            other => (other.to_string(), String::new()),
+        };
+        let advice = Some(advice).filter(|advice| !advice.is_empty()).into_iter().collect();
+        Failure::from(Refused { number: Some(refusal.number()), what, spot: None, advice })
+    }
+}
+
+impl<'a> Change<'a> {
+    /// A leaflet in place of all records.
+    pub fn import(leaflet: &'a Leaflet, size: u32) -> Change<'a> {
+        let reading = Reading::of(leaflet.text());
+        let records = scratch::records(&reading, size, &[]);
+        Change { leaflet: Some(leaflet), reading, size, at: 0, records }
+    }
+
+    /// A refusal by the records that would result, in lines of this measure after this indent.
+    pub fn refused(&self, refusal: Refusal, measure: u32, indent: u32) -> Failure {
+        let (record, (what, advice)) = match refusal {
+            Refusal::TooManyRecords => (256, self.too_many()),
+            Refusal::Record { record } => (record, self.own_rules(record as usize)),
+            Refusal::Group { record } => (record, self.too_long_base()),
+            Refusal::NoBreaking { record } => (record, self.too_wide(record, measure, indent)),
+            Refusal::NotListed { record } => (record, (refusal.to_string(), String::new())),
+            other => (0, (other.to_string(), String::new())),
+        };
+        Failure::from(Refused {
+            number: Some(refusal.number()),
+            what,
+            spot: Some(self.spot(record as usize)),
+            advice: Some(advice).filter(|advice| !advice.is_empty()).into_iter().collect(),
+        })
+    }
+
+    fn too_many(&self) -> (String, String) {
+        let what = format!("the slot would have {} characters, and 256 are the most", self.records.len());
+        (what, "Part the text here or earlier, and put the rest into another slot.".to_string())
+    }
+
+    fn too_long_base(&self) -> (String, String) {
+        let what = "this is the seventeenth character under one ruby, and 16 are the most".to_string();
+        (what, "Make two ruby elements of it.".to_string())
+    }
+
+    /// Why a record breaks its own rules, which is refused with 8.
+    fn own_rules(&self, record: usize) -> (String, String) {
+        let Record { size, class, group, ruby_count, .. } = self.records[record];
+        let character = self.records[record].character().map_or(String::new(), named);
+        if !size.is_multiple_of(8) || !scratch::SIZES.contains(&size) {
+            (format!("{size} is no size"), "A size is a multiple of 8, from 8 to 4,000.".to_string())
+        } else if group != 0 && !matches!(class, 15 | 16 | 19) {
+            (
+                format!(
+                    "{character} may not stand under ruby; kana and ideographs may (it is of class {class})"
+                ),
+                "End the ruby element before it, and begin another after it if need be.".to_string(),
+            )
+        } else if ruby_count > 64 {
+            (
+                format!("there are {ruby_count} ruby characters over this, and 64 are the most"),
+                "Shorten its <rt>.".to_string(),
+            )
+        } else {
+            (Refusal::Record { record: record as u32 }.to_string(), String::new())
+        }
+    }
+
+    /// Which text is too wide for a line, and how long a line must be.
+    fn too_wide(&self, record: u32, measure: u32, indent: u32) -> (String, String) {
+        let after = if record == 0 && indent > 0 { " and its indent" } else { "" };
+        let what = format!(
+            "from here to where a line may next end, the text{after} is wider than {measure}, a line"
+        );
+        let advice = match scratch::least_measure(indent, &self.records) {
+            Some(least) => format!(
+                "The whole text needs lines of {least} units; that is {} characters of size {}.",
+                least.div_ceil(self.size.max(1)),
+                self.size
+            ),
+            None => "No line is long enough for it: make the characters smaller.".to_string(),
+        };
+        (what, advice)
+    }
+
+    /// The place of a record: in the leaflet where it came from there, else in the slot.
+    fn spot(&self, record: usize) -> Spot {
+        let letter = record.checked_sub(self.at).and_then(|index| self.reading.letters.get(index));
+        if let (Some(letter), Some(leaflet)) = (letter, self.leaflet) {
+            return leaflet.spot(letter.offset, 1);
+        }
+        let line = self.records.iter().map(|record| record.character().unwrap_or('\u{FFFD}')).collect();
+        Spot {
+            name: format!("the slot's text after the edit, record {record}"),
+            line,
+            before: record,
+            length: 1,
+        }
+    }
+}
+
+/// A text that is no leaflet.
+pub fn no_leaflet(fault: LeafletFault, leaflet: &Leaflet) -> Failure {
+    let length = match fault.found {
+        Found::Tag(tag) => tag.to_string().chars().count(),
+        _ => 1,
+    };
+    Failure::from(Refused {
+        number: Some(17),
+        what: fault.found.to_string(),
+        spot: Some(leaflet.spot(fault.offset, length)),
+        advice: vec![mending(fault.found)],
+    })
+}
+
+/// What to write in place of what cannot stand in a leaflet.
+fn mending(found: Found) -> String {
+    match found {
+        Found::Character('\n' | '\r') => {
+            "A leaflet is one paragraph on one line: join its lines.".to_string()
+        }
+        Found::Character(' ' | '\t' | '\u{A0}') => {
+            "There are no spaces in a leaflet but the ideographic one, U+3000.".to_string()
+        }
+        Found::Character('&') => "Write the character itself; character references are not read.".to_string(),
+        Found::Character('>') => "〈 and 〉 may stand in a text; < and > stand in tags alone.".to_string(),
+        Found::Character(character) => match stands_for(character) {
+            Some(instead) => format!("Write {} in its place.", named(instead)),
+            None if class_of(character).is_some() => {
+                "In a ruby element, after the base, text stands in <rt> and <rp> alone.".to_string()
+            }
+            None => "Write it with other characters: those of JLReq's lists and ideographs can be set."
+                .to_string(),
+        },
+        Found::Tag(_) => {
+            "A ruby element is <ruby>base<rt>ruby</rt></ruby>, with an <rp> on both sides of the <rt> or \
+                          on neither. There are no other tags, and nothing else stands in them."
+                .to_string()
+        }
+        Found::IllFormed(_) => {
+            "Save the file as UTF-8; it may be in Shift_JIS or another encoding.".to_string()
+        }
+        Found::End => "Its end tags are missing: </rt>, </ruby>.".to_string(),
+        other => other.to_string(),
+    }
+}
+
+/// The character of the lists that a look-alike stands for, if it is one.
+fn stands_for(character: char) -> Option<char> {
+    let instead = match character {
+        // The full-width forms of ASCII.
+        '\u{FF01}'..='\u{FF5E}' => char::from_u32(u32::from(character) - 0xFEE0)?,
+        '\u{FF61}' => '。',
+        '\u{FF62}' => '「',
+        '\u{FF63}' => '」',
+        '\u{FF64}' => '、',
+        '\u{FF65}' => '・',
+        '\u{2015}' | '\u{2500}' => '—',
+        '\u{2212}' | '\u{2011}' => '-',
+        '\u{FF5F}' => '⦅',
+        '\u{FF60}' => '⦆',
+        _ => return None,
+    };
+    (class_of(instead).is_some() && !matches!(instead, '<' | '>' | '&')).then_some(instead)
+}

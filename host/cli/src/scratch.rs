@@ -1,0 +1,136 @@
+//! Slots that are on nobody's sheet, to ask the library with.
+
+use std::ops::RangeInclusive;
+
+use gelumbrio::{class_of, Clinic, LeafletFault, Record, Refusal, Sheet, SlotNumber};
+
+use crate::leaflet::Reading;
+
+/// Whose slots they are.
+pub const CALLER: Clinic = Clinic(1);
+/// Measures, as document 01 limits them.
+pub const MEASURES: RangeInclusive<u32> = 8..=1_000_000;
+/// Sizes, as document 01 limits them; they are multiples of 8.
+pub const SIZES: RangeInclusive<u32> = 8..=4_000;
+
+/// A sheet of one slot, taken by [`CALLER`].
+pub fn fresh(measure: u32, indent: u32) -> Result<(Sheet, SlotNumber), Refusal> {
+    let mut sheet = Sheet::new(1)?;
+    sheet.set_up(&[CALLER], &[measure], &[indent])?;
+    let slot = sheet.take(CALLER)?;
+    Ok((sheet, slot))
+}
+
+/// A slot of the widest lines that there are.
+pub fn widest() -> (Sheet, SlotNumber) {
+    fresh(*MEASURES.end(), 0).expect("a measure within limits")
+}
+
+/// Where a text is no leaflet, what is wrong with it. What else an import would be refused with is not asked.
+pub fn leaflet_fault(text: &[u8]) -> Option<LeafletFault> {
+    let (mut sheet, slot) = widest();
+    match sheet.import(CALLER, slot, *SIZES.start(), text) {
+        Err(Refusal::Leaflet(fault)) => Some(fault),
+        _ => None,
+    }
+}
+
+/// What a fresh slot says to these records.
+pub fn try_records(measure: u32, indent: u32, records: &[Record]) -> Result<(), Refusal> {
+    let (mut sheet, slot) = fresh(measure, indent)?;
+    sheet.edit(CALLER, slot, 0, 0, &words(records)).map(|_edited| ())
+}
+
+/// The shortest measure in which these records can be broken into lines, if there is one.
+pub fn least_measure(indent: u32, records: &[Record]) -> Option<u32> {
+    let fits = |measure| try_records(measure, indent, records).is_ok();
+    let (mut low, mut high) = (indent.saturating_add(1).max(*MEASURES.start()), *MEASURES.end());
+    if low > high || !fits(high) {
+        return None;
+    }
+    // What fits in a measure fits in every longer one.
+    while low < high {
+        let middle = low + (high - low) / 2;
+        if fits(middle) {
+            high = middle;
+        } else {
+            low = middle + 1;
+        }
+    }
+    Some(high)
+}
+
+/// The words of records, as an edit takes them.
+pub fn words(records: &[Record]) -> Vec<u32> {
+    records.iter().flat_map(|record| record.words()).collect()
+}
+
+/// The records of an accepted leaflet, as an import makes them. Its groups get the lowest numbers that are not among
+/// those taken: next to a group of the same number they would be one with it.
+pub fn records(reading: &Reading, size: u32, taken: &[Record]) -> Vec<Record> {
+    let mut records: Vec<Record> = characters(reading, size);
+    let mut free = (1..).filter(|number| taken.iter().all(|record| record.group != *number));
+    for element in &reading.elements {
+        let group = free.next().unwrap_or(0);
+        for record in &mut records[element.first..element.first + element.length] {
+            record.group = group;
+            record.ruby_count = u32::try_from(element.ruby.len()).unwrap_or(u32::MAX);
+        }
+    }
+    records
+}
+
+/// The records that imports make of a leaflet's characters, each alone.
+fn characters(reading: &Reading, size: u32) -> Vec<Record> {
+    let (mut sheet, slot) = widest();
+    let mut imported = |character: char| {
+        sheet.import(CALLER, slot, size, character.to_string()).ok()?;
+        sheet.slot(slot)?.records().next()
+    };
+    let letters = reading.letters.iter().map(|letter| letter.character);
+    let record = |character| imported(character).unwrap_or_else(|| of_no_size(character, size));
+    letters.map(record).collect()
+}
+
+/// A record that is refused, as an import of it is: the size is none. Its advance is the least that is wrong with it.
+fn of_no_size(character: char, size: u32) -> Record {
+    let class = class_of(character).unwrap_or(0);
+    Record { code_point: character.into(), class, size, advance: size, group: 0, ruby_count: 0 }
+}
+
+#[cfg(test)]
+mod tests {
+    use super::*;
+
+    const TEXT: &str = "1回2錠を、<ruby>食後<rt>しょくご</rt></ruby>に「水」で。\
+                        <ruby>薬<rp>(</rp><rt>くすり</rt><rp>)</rp></ruby>は5%〜℃・Wm";
+
+    #[test]
+    fn records_are_those_of_an_import() {
+        for size in [8, 80, 4_000] {
+            let (mut sheet, slot) = widest();
+            sheet.import(CALLER, slot, size, TEXT).unwrap();
+            let imported: Vec<Record> = sheet.slot(slot).unwrap().records().collect();
+            assert_eq!(records(&Reading::of(TEXT.as_bytes()), size, &[]), imported);
+        }
+    }
+
+    #[test]
+    fn new_groups_have_numbers_of_their_own() {
+        let taken = records(&Reading::of(TEXT.as_bytes()), 80, &[]);
+        let numbers = |records: &[Record]| records.iter().map(|record| record.group).collect::<Vec<_>>();
+        let text = "<ruby>朝<rt>あさ</rt></ruby>と<ruby>夕<rt>ゆう</rt></ruby>";
+        assert_eq!(numbers(&records(&Reading::of(text.as_bytes()), 80, &taken)), [3, 0, 4]);
+        assert_eq!(numbers(&records(&Reading::of(text.as_bytes()), 80, &taken[..8])), [2, 0, 3]);
+    }
+
+    #[test]
+    fn the_shortest_measure_is_found() {
+        let of = |text: &str| records(&Reading::of(text.as_bytes()), 80, &[]);
+        // The indent and the first character; then three digits, which hold together.
+        assert_eq!(least_measure(40, &of("錠123")), Some(120));
+        assert_eq!(least_measure(0, &of("錠123456")), Some(240));
+        assert_eq!(least_measure(0, &[]), Some(8));
+        assert_eq!(least_measure(2_000_000, &[]), None);
+    }
+}

@@ -1,0 +1,111 @@
+//! A sheet in a file: its words, little-endian, and nothing else.
+//!
+//! A program that changes a sheet holds a lock on the sheet's own file. As that file is renamed over by whoever has
+//! changed it, a program that gets the lock looks whether its file still is the sheet's, and else begins again. One that
+//! only reads needs no lock: the file that it opened is never written to.
+
+use std::fs::{self, File, OpenOptions};
+use std::io::{self, Read};
+use std::os::unix::fs::MetadataExt;
+use std::path::{Path, PathBuf};
+
+use gelumbrio::{Sheet, MAX_SLOTS, SLOT_WORDS};
+
+use crate::failure::{Failure, Refused};
+use crate::files::{self, Staged};
+
+/// A slot's bytes.
+const SLOT_BYTES: usize = SLOT_WORDS * size_of::<u32>();
+
+/// A sheet's file that this program alone may change.
+#[derive(Debug)]
+pub struct LockedSheet {
+    path: PathBuf,
+    /// The lock is given up where the file is closed.
+    file: File,
+}
+
+/// Writes a new sheet to a file that is not there yet.
+pub fn create(path: &Path, sheet: &Sheet) -> Result<(), Failure> {
+    // The link would say the same, after everything is written.
+    if fs::symlink_metadata(path).is_ok() {
+        let what = format!("{} is there already, and a new sheet has no texts", path.display());
+        return Err(Failure::plain(what).advising("Name another file, or move this one away first."));
+    }
+    Staged::new(path, &bytes(sheet))?.put_in_free_place()
+}
+
+/// Reads a sheet.
+pub fn read(path: &Path) -> Result<Sheet, Failure> {
+    let opened = File::open(path).and_then(ordinary);
+    let file = opened.map_err(|error| Failure::reading(path.display(), &error))?;
+    sheet_in(&file, path)
+}
+
+impl LockedSheet {
+    /// Waits until no other program is changing the sheet.
+    pub fn open(path: &Path) -> Result<LockedSheet, Failure> {
+        LockedSheet::lock(path).map_err(|error| Failure::writing(path.display(), &error))
+    }
+
+    fn lock(path: &Path) -> io::Result<LockedSheet> {
+        let path = fs::canonicalize(path)?;
+        loop {
+            let file = OpenOptions::new().read(true).write(true).open(&path).and_then(ordinary)?;
+            file.lock()?;
+            let (locked, named) = (file.metadata()?, fs::metadata(&path)?);
+            if (locked.dev(), locked.ino()) == (named.dev(), named.ino()) {
+                return Ok(LockedSheet { path, file });
+            }
+        }
+    }
+
+    /// The sheet as it is.
+    pub fn read(&self) -> Result<Sheet, Failure> {
+        sheet_in(&self.file, &self.path)
+    }
+
+    /// Puts a changed sheet in its place, and lets others go on.
+    pub fn replace(self, sheet: &Sheet) -> Result<(), Failure> {
+        files::sweep(&self.path);
+        Staged::new(&self.path, &bytes(sheet))?.put_in_place()
+    }
+}
+
+/// The file, unless it is a folder, a device or the like.
+fn ordinary(file: File) -> io::Result<File> {
+    match file.metadata()?.is_file() {
+        true => Ok(file),
+        false => Err(io::Error::other("it is no file of words")),
+    }
+}
+
+fn sheet_in(file: &File, path: &Path) -> Result<Sheet, Failure> {
+    let mut bytes = Vec::new();
+    let longest = MAX_SLOTS * SLOT_BYTES;
+    let limited = file.take(longest as u64 + 1).read_to_end(&mut bytes);
+    limited.map_err(|error| Failure::reading(path.display(), &error))?;
+    if bytes.is_empty() || !bytes.len().is_multiple_of(SLOT_BYTES) || bytes.len() > longest {
+        let length = file.metadata().map_or(bytes.len() as u64, |metadata| metadata.len());
+        return Err(no_sheet(path, length));
+    }
+    let (words, _) = bytes.as_chunks::<4>();
+    let sheet = Sheet::from_words(words.iter().map(|&word| u32::from_le_bytes(word)).collect());
+    sheet.map_err(|_refusal| no_sheet(path, bytes.len() as u64))
+}
+
+fn no_sheet(path: &Path, length: u64) -> Failure {
+    Failure::from(Refused {
+        number: Some(1),
+        what: format!("{} is no sheet: it has {length} bytes", path.display()),
+        spot: None,
+        advice: vec![
+            format!("A sheet's file has {SLOT_BYTES} bytes for each of its 1 to {MAX_SLOTS} slots."),
+            "`gelumbrio sheet new` makes one.".to_string(),
+        ],
+    })
+}
+
+fn bytes(sheet: &Sheet) -> Vec<u8> {
+    sheet.words().iter().flat_map(|word| word.to_le_bytes()).collect()
+}

@@ -1,0 +1,161 @@
+//! Files that are bad, full or closed, and what stays of those that are there.
+
+mod common;
+
+use std::fs::{self, Permissions};
+use std::os::unix::fs::{symlink, MetadataExt, PermissionsExt};
+use std::os::unix::process::CommandExt;
+use std::path::Path;
+use std::process::Command;
+
+use common::{run_with, Folder, Said, PROGRAM};
+
+#[test]
+fn files_that_cannot_be_read() {
+    let folder = Folder::with_sheet();
+    folder.write("empty", "");
+    folder.write("short", &folder.read("ward")[1..]);
+    folder.write("long", [folder.read("ward"), vec![0]].concat());
+    folder.write("huge", vec![0; 65 * 11_296]);
+    for (arguments, what) in [
+        (&["compose", "nothing", "--chars", "9"][..], "cannot read nothing: No such file"),
+        (&["compose", ".", "--chars", "9"], "cannot read .: Is a directory"),
+        (&["show", "nothing", "--clinic", "7", "--slot", "0"], "cannot read nothing: No such file"),
+        (&["sheet", "check", "."], "cannot read .: it is no file of words"),
+        (&["take", "nothing", "--clinic", "7"], "cannot write nothing: No such file"),
+        (&["take", "/dev/null", "--clinic", "7"], "cannot write /dev/null: it is no file of words"),
+        (&["sheet", "check", "empty"], "refused with 1: empty is no sheet: it has 0 bytes"),
+        (&["take", "short", "--clinic", "7"], "it has 22591 bytes"),
+        (&["give", "long", "--clinic", "7", "--slot", "0"], "it has 22593 bytes"),
+        (&["edit", "huge", "--at", "0", "--clinic", "7", "--slot", "0"], "it has 734240 bytes"),
+        (&["compose", "/dev/zero", "--chars", "9"], "/dev/zero has more than 16 MB"),
+        (&["sheet", "new", "ward", "--slot", "7:22:1"], "ward is there already"),
+        (&["sheet", "new", "no/ward", "--slot", "7:22:1"], "cannot write no/ward: No such file"),
+        (&["compose", "/dev/null", "--chars", "9", "--svg", "."], "cannot write .: "),
+        (&["compose", "/dev/null", "--chars", "9", "--html", "no/x"], "cannot write no/x: No such file"),
+    ] {
+        let said = folder.run(arguments).refused();
+        assert!(said.contains(what), "{arguments:?}: {said}");
+    }
+    assert_eq!(folder.names(), ["empty", "huge", "long", "short", "ward"]);
+}
+
+#[test]
+fn what_was_read_is_not_written_over() {
+    let folder = Folder::with_sheet();
+    folder.write("x.html", "頭痛");
+    symlink("x.html", folder.file("link")).unwrap();
+    let names = folder.names();
+    for arguments in [
+        &["compose", "x.html", "--chars", "9", "--html", "x.html"][..],
+        &["compose", "x.html", "--chars", "9", "--svg", "x.svg", "--html", "./link"],
+        &["show", "ward", "--clinic", "7", "--slot", "0", "--svg", "ward"],
+    ] {
+        assert!(folder.run(arguments).refused().contains("was read, and would be lost"));
+        assert_eq!(folder.names(), names);
+    }
+    assert_eq!(folder.read("x.html"), "頭痛".as_bytes());
+}
+
+/// Runs the program as somebody who may not do everything.
+fn as_nobody(folder: &Folder, arguments: &[&str]) -> Said {
+    // Its own folder may be closed to others.
+    let program = folder.file("program");
+    if !program.exists() {
+        fs::copy(PROGRAM, &program).unwrap();
+    }
+    let mut command = Command::new(program);
+    command.args(arguments).current_dir(&folder.path);
+    if fs::metadata(&folder.path).unwrap().uid() == 0 {
+        command.uid(65_534).gid(65_534);
+    }
+    run_with(command, "頭痛")
+}
+
+#[test]
+fn a_folder_that_cannot_be_written_to() {
+    let folder = Folder::with_sheet();
+    folder.write("x.svg", "old");
+    let before = folder.read("ward");
+    for name in ["ward", "x.svg"] {
+        fs::set_permissions(folder.file(name), Permissions::from_mode(0o666)).unwrap();
+    }
+    assert_eq!(as_nobody(&folder, &["--version"]).status, 0);
+    let names = folder.names();
+    fs::set_permissions(&folder.path, Permissions::from_mode(0o555)).unwrap();
+    for (arguments, file) in [
+        (&["give", "ward", "--clinic", "7", "--slot", "0"][..], "ward"),
+        (&["import", "ward", "-", "--clinic", "7", "--slot", "0"], "ward"),
+        (&["compose", "-", "--chars", "9", "--svg", "x.svg"], "x.svg"),
+        (&["compose", "-", "--chars", "9", "--html", "y.html"], "y.html"),
+        (&["sheet", "new", "z", "--slot", "7:22:1"], "z"),
+    ] {
+        let said = as_nobody(&folder, arguments).refused();
+        assert!(
+            said.contains("cannot write ") && said.contains(&format!("{file}: Permission denied")),
+            "{said}"
+        );
+        assert!(said.contains("both it and its folder must be writable"), "{said}");
+    }
+    fs::set_permissions(&folder.path, Permissions::from_mode(0o777)).unwrap();
+    assert_eq!((folder.read("ward"), folder.read("x.svg")), (before, b"old".to_vec()));
+    assert_eq!(folder.names(), names);
+
+    // A sheet that is closed to the caller is not replaced, though its folder is open.
+    fs::set_permissions(folder.file("ward"), Permissions::from_mode(0o444)).unwrap();
+    let said = as_nobody(&folder, &["give", "ward", "--clinic", "7", "--slot", "0"]).refused();
+    assert!(said.contains("Permission denied"), "{said}");
+}
+
+#[test]
+fn a_disk_that_is_full() {
+    let folder = Folder::with_sheet();
+    folder.write("x.svg", "old");
+    let before = folder.read("ward");
+    // Files of at most one block, and the system's signal for longer ones not heeded: a write fails in the middle.
+    for arguments in ["give ward --clinic 7 --slot 0", "compose - --chars 9 --svg x.svg"] {
+        let limited = format!("trap '' XFSZ; ulimit -f 1; exec {PROGRAM} {arguments}");
+        let mut command = Command::new("sh");
+        command.args(["-c", &limited]).current_dir(&folder.path);
+        let said = run_with(command, "頭痛".repeat(100)).refused();
+        assert!(said.contains("cannot write") && said.contains("File too large"), "{said}");
+        assert_eq!(folder.names(), ["ward", "x.svg"]);
+    }
+    assert_eq!((folder.read("ward"), folder.read("x.svg")), (before, b"old".to_vec()));
+}
+
+#[test]
+fn links_and_permissions_stay() {
+    let folder = Folder::with_sheet();
+    fs::create_dir(folder.file("sub")).unwrap();
+    symlink("../ward", folder.file("sub/link")).unwrap();
+    fs::set_permissions(folder.file("ward"), Permissions::from_mode(0o640)).unwrap();
+    let import = ["import", "sub/link", "-", "--clinic", "7", "--slot", "0"];
+    folder.run_with(&import, "頭痛").accepted();
+    assert_eq!(common::text(&folder.sheet("ward"), 0), "頭痛");
+    assert!(fs::symlink_metadata(folder.file("sub/link")).unwrap().is_symlink());
+    assert_eq!(fs::metadata(folder.file("ward")).unwrap().mode() & 0o777, 0o640);
+    assert_eq!(folder.names(), ["sub", "ward"]);
+    assert_eq!(fs::read_dir(folder.file("sub")).unwrap().count(), 1);
+
+    folder.write("x.svg", "old");
+    fs::set_permissions(folder.file("x.svg"), Permissions::from_mode(0o604)).unwrap();
+    folder.run_with(&["compose", "-", "--chars", "9", "--svg", "x.svg"], "頭痛").accepted();
+    assert_eq!(fs::metadata(folder.file("x.svg")).unwrap().mode() & 0o777, 0o604);
+
+    // No pipe or device is replaced by a file.
+    Command::new("mkfifo").arg(folder.file("pipe")).status().unwrap();
+    let said = folder.run_with(&["compose", "-", "--chars", "9", "--svg", "pipe"], "頭痛").refused();
+    assert!(said.contains("no file that could be replaced"), "{said}");
+}
+
+#[test]
+fn what_a_killed_program_left_is_swept_away() {
+    let folder = Folder::with_sheet();
+    folder.write(".ward.1-0.gelumbrio-new", "half a sheet");
+    folder.write(".other.1-0.gelumbrio-new", "another's");
+    folder.write(".ward.note", "a person's");
+    folder.run(&["give", "ward", "--clinic", "7", "--slot", "0"]).accepted();
+    assert_eq!(folder.names(), [".other.1-0.gelumbrio-new", ".ward.note", "ward"]);
+    assert!(Path::new(&folder.file("ward")).exists());
+}

@@ -1,0 +1,158 @@
+//! Help, the version, wrong usage, and colour.
+
+mod common;
+
+use std::process::Command;
+
+use common::{command, root, run, PROGRAM};
+
+const COMMANDS: [&[&str]; 8] = [
+    &["compose"],
+    &["sheet", "new"],
+    &["sheet", "check"],
+    &["take"],
+    &["give"],
+    &["import"],
+    &["edit"],
+    &["show"],
+];
+
+#[test]
+fn help_is_there_for_the_whole_and_for_each_command() {
+    let whole = run(&["--help"]).accepted();
+    assert_eq!(run(&["-h"]).accepted(), whole);
+    assert_eq!(run(&["help"]).accepted(), whole);
+    for words in COMMANDS {
+        let name = format!("gelumbrio {}", words.join(" "));
+        assert!(whole.contains(&name), "{name}");
+        let help = run(&[words, &["--help"]].concat()).accepted();
+        assert!(help.starts_with(&name) && help.contains("\nExample"), "{help}");
+        assert_eq!(run(&[words, &["x", "y", "--nonsense", "-h"]].concat()).accepted(), help);
+        assert_eq!(run(&[&["help"], words].concat()).accepted(), help);
+        assert!(help.lines().chain(whole.lines()).all(|line| line.chars().count() < 120), "{help}");
+    }
+    assert!(run(&["sheet", "--help"]).accepted().contains("sheet check FILE"));
+}
+
+/// The examples that help gives are commands that run.
+#[test]
+fn the_examples_of_help_run() {
+    let folder = common::Folder::new();
+    std::fs::create_dir(folder.file("examples")).unwrap();
+    for name in ["dose", "aftercare"] {
+        let leaflet = std::fs::read(root().join(format!("examples/{name}.html"))).unwrap();
+        folder.write(&format!("examples/{name}.html"), leaflet);
+    }
+    let bin = std::path::Path::new(PROGRAM).parent().unwrap();
+    let path = format!("{}:{}", bin.display(), std::env::var("PATH").unwrap_or_default());
+    let mut count = 0;
+    let before = ["take", "import", "show"];
+    for words in COMMANDS {
+        let help = run(&[words, &["--help"]].concat()).accepted();
+        for example in help.split("\nExample").nth(1).unwrap().lines().filter(|line| line.starts_with("  ")) {
+            if words == ["sheet", "new"] {
+                let _ = std::fs::remove_file(folder.file("ward.sheet"));
+            }
+            if words[0] == before[1] || words[0] == before[2] {
+                let _ = folder.run(&["take", "ward.sheet", "--clinic", "7"]);
+            }
+            if words[0] == "give" {
+                let _ = folder.run(&["take", "ward.sheet", "--clinic", "7"]);
+            }
+            if words[0] == "edit" || words[0] == "show" {
+                let dose = ["import", "ward.sheet", "--clinic", "7", "--slot", "0", "examples/dose.html"];
+                folder.run(&dose).accepted();
+            }
+            let ran = Command::new("sh")
+                .args(["-c", example])
+                .current_dir(&folder.path)
+                .env("PATH", &path)
+                .output()
+                .expect("a shell");
+            assert!(ran.status.success(), "{example}: {}", String::from_utf8_lossy(&ran.stderr));
+            count += 1;
+        }
+    }
+    assert_eq!(count, 13);
+}
+
+#[test]
+fn the_version_is_told() {
+    assert_eq!(run(&["--version"]).accepted(), format!("gelumbrio {}\n", env!("CARGO_PKG_VERSION")));
+}
+
+#[test]
+fn wrong_usage_has_a_status_of_its_own() {
+    for (arguments, what) in [
+        (&[][..], "no command is given"),
+        (&["composed"], "there is no command composed"),
+        (&["sheet"], "sheet new makes a sheet"),
+        (&["sheet", "mend"], "sheet new makes a sheet"),
+        (&["compose"], "LEAFLET is missing"),
+        (&["compose", "a", "b", "--chars", "2"], "what is b for?"),
+        (&["compose", "a"], "how long is a line?"),
+        (&["compose", "a", "--chars", "2", "--measure", "8"], "both say how long a line is"),
+        (&["compose", "a", "--chars"], "--chars needs a value"),
+        (&["compose", "a", "--chars", "2", "--chars", "2"], "--chars is given twice"),
+        (&["compose", "a", "--chars", "x"], "--chars x is no whole number"),
+        (&["compose", "a", "--chars", "-2"], "--chars -2 is no whole number"),
+        (&["compose", "a", "--chars", "4294967296"], "is no whole number"),
+        (&["compose", "a", "--chars", "2", "--indent", "1.5"], "--indent 1.5 is no length"),
+        (&["compose", "a", "--chars", "2", "--svg", "-"], "--svg needs a file's name"),
+        (&["compose", "a", "--chars", "2", "--svg", "b", "--html", "b"], "name one file"),
+        (&["compose", "a", "--chars", "2", "--marks=1"], "--marks takes no value"),
+        (&["compose", "a", "--chars", "2", "--colour"], "there is no option --colour"),
+        (&["compose", "a", "-c", "2"], "there is no option -c"),
+        (&["sheet", "new", "a"], "which slots has it?"),
+        (&["sheet", "new", "a", "--slot", "7:22"], "--slot 7:22 is no slot"),
+        (&["sheet", "new", "a", "--slot", "7:22:1:1"], "is no slot"),
+        (&["sheet", "new", "a", "--slot", "x:22:1"], "is no slot"),
+        (&["take", "a"], "--clinic is missing"),
+        (&["give", "a", "--clinic", "7"], "--slot is missing"),
+        (&["import", "a", "--clinic", "7", "--slot", "0"], "LEAFLET is missing"),
+        (&["edit", "a", "--clinic", "7", "--slot", "0"], "--at is missing"),
+        (&["show", "--clinic", "7", "--slot", "0"], "FILE is missing"),
+    ] {
+        let said = run(arguments).misused();
+        assert!(said.contains(what) && said.contains("--help`"), "{arguments:?}: {said}");
+    }
+}
+
+/// What the program says on a terminal, as `script` gives it one.
+fn on_a_terminal(arguments: &str, variables: &[(&str, &str)]) -> Option<String> {
+    let mut script = Command::new("script");
+    script.args(["-qec", &format!("{PROGRAM} {arguments}"), "/dev/null"]).current_dir(root());
+    script.env_remove("NO_COLOR").env("TERM", "xterm").envs(variables.iter().copied());
+    let output = script.stdin(std::process::Stdio::null()).output().ok()?;
+    Some(String::from_utf8_lossy(&output.stdout).into_owned())
+}
+
+#[test]
+fn there_is_colour_on_a_terminal_alone() {
+    let refused = "compose examples/fault.html --chars 22";
+    let arguments: Vec<&str> = refused.split(' ').collect();
+    assert!(!run(&arguments).refused().contains('\u{1B}'));
+    let marked = "compose examples/dose.html --chars 22 --marks";
+    let Some(coloured) = on_a_terminal(refused, &[]) else { return };
+    assert!(coloured.contains("\u{1B}[1;31mrefused with 17\u{1B}[0m"), "{coloured}");
+    assert!(on_a_terminal(marked, &[]).unwrap().contains("\u{1B}[2m"));
+    for variables in [("NO_COLOR", "1"), ("TERM", "dumb")] {
+        for arguments in [refused, marked] {
+            let said = on_a_terminal(arguments, &[variables]).unwrap();
+            assert!(!said.contains('\u{1B}') && !said.is_empty(), "{said}");
+        }
+    }
+    assert!(on_a_terminal(refused, &[("NO_COLOR", "")]).unwrap().contains('\u{1B}'));
+}
+
+#[test]
+fn nobody_need_read_all_that_is_said() {
+    let mut full = command(&root(), &["compose", "examples/dose.html", "--chars", "22"]);
+    let said = full.stdout(std::fs::File::create("/dev/full").unwrap()).output().unwrap();
+    assert_eq!(said.status.code(), Some(1));
+    assert!(String::from_utf8_lossy(&said.stderr).contains("cannot write standard output: No space left"));
+
+    let head = format!("{PROGRAM} compose examples/dose.html --chars 22 --json | head -n 1");
+    let said = Command::new("sh").args(["-c", &head]).current_dir(root()).output().unwrap();
+    assert_eq!((said.stdout.as_slice(), said.stderr.as_slice()), (&b"{\n"[..], &b""[..]));
+}
