@@ -3,8 +3,8 @@
 /// Stands for what cannot be shown.
 pub const REPLACEMENT: char = '\u{FFFD}';
 
-/// The blocks whose characters are of East Asian width W or F (UAX 11). Of emoji the main blocks are here; a leaflet has
-/// none outside its rt and rp.
+/// The blocks whose characters are of East Asian width W or F (UAX 11). Of emoji the main blocks are here; a leaflet
+/// has none outside its rt and rp.
 const WIDE: [(u32, u32); 20] = [
     (0x1100, 0x115F),
     (0x2329, 0x232A),

@@ -3,7 +3,7 @@
 use gelumbrio::{Clinic, Record, Refusal, Sheet, Slot, SlotNumber, SLOT_WORDS};
 
 use crate::characters::named;
-use crate::scratch::{try_records, MEASURES};
+use crate::scratch::{try_records, MEASURES, MOST_RECORDS};
 
 /// What is found in a slot.
 #[derive(Debug, Clone, PartialEq, Eq)]
@@ -21,9 +21,6 @@ pub enum State {
     /// Every edit of it is refused with 4. Only a set-up mends it.
     Damaged(String),
 }
-
-/// The most records that a slot can have.
-const MOST_RECORDS: u32 = 256;
 
 /// Looks at a slot of a sheet.
 pub fn state(slot: Slot<'_>) -> State {
@@ -63,7 +60,7 @@ pub fn damage(slot: Slot<'_>) -> Option<String> {
     if indent >= measure {
         return Some(format!("its indent is {indent}, and its measure {measure}"));
     }
-    if count > MOST_RECORDS {
+    if count as usize > MOST_RECORDS {
         return Some(format!("it has {count} records, and {MOST_RECORDS} are the most"));
     }
     let records: Vec<Record> = slot.records().collect();

@@ -124,12 +124,12 @@ impl Refused {
             Some(number) => format!("{}: ", style.wrong(&format!("refused with {number}"))),
             None => String::new(),
         };
-        let mut told = format!("gelumbrio: {head}{}\n", self.what);
+        let mut told = format!("gelumbrio: {head}{}\n", shown(&self.what));
         if let Some(spot) = &self.spot {
             told.push_str(&spot.told(style));
         }
         for advice in &self.advice {
-            told.push_str(&format!("  {} {advice}\n", style.faint("=")));
+            told.push_str(&format!("  {} {}\n", style.faint("="), shown(advice)));
         }
         told
     }
@@ -141,7 +141,7 @@ impl Spot {
         let line: Vec<char> = self.line.chars().map(printable).collect();
         let (start, end) = self.excerpt(&line);
         let (left, right) = (if start > 0 { "…" } else { "" }, if end < line.len() { "…" } else { "" });
-        let shown: String = line[start..end].iter().collect();
+        let excerpt: String = line[start..end].iter().collect();
 
         let before = self.before.min(line.len());
         let indent = width(&line[start..before]) + left.chars().count();
@@ -149,9 +149,9 @@ impl Spot {
         let mark = "^".repeat(width(meant).max(1));
         let bar = style.faint("|");
         format!(
-            "  {} {}\n   {bar}\n   {bar} {left}{shown}{right}\n   {bar} {}{}\n",
+            "  {} {}\n   {bar}\n   {bar} {left}{excerpt}{right}\n   {bar} {}{}\n",
             style.faint("-->"),
-            self.name,
+            shown(&self.name),
             " ".repeat(indent),
             style.wrong(&mark),
         )
@@ -176,6 +176,11 @@ impl Spot {
             }
         }
     }
+}
+
+/// A text with what a file's name or a leaflet may have in it and no terminal should get.
+pub fn shown(text: &str) -> String {
+    text.chars().map(|character| if character == '\n' { character } else { printable(character) }).collect()
 }
 
 /// How many columns these characters take.

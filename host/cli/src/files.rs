@@ -5,7 +5,7 @@
 
 use std::ffi::{OsStr, OsString};
 use std::fs::{self, File, Metadata, OpenOptions, Permissions};
-use std::io::{self, Write};
+use std::io::{self, ErrorKind, Write};
 use std::os::unix::fs::{fchown, MetadataExt, PermissionsExt};
 use std::path::{Path, PathBuf};
 use std::process;
@@ -54,7 +54,7 @@ impl Staged {
             match OpenOptions::new().write(true).create_new(true).open(&written) {
                 Ok(file) => return Ok((Staged { written, target }, file)),
                 // It was left by a program of this number that was killed.
-                Err(error) if error.kind() == io::ErrorKind::AlreadyExists => attempt += 1,
+                Err(error) if error.kind() == ErrorKind::AlreadyExists => attempt += 1,
                 Err(error) => return Err(error),
             }
         }
@@ -69,7 +69,15 @@ impl Staged {
 
     /// Puts the file in its place, unless there is one: renaming would replace it, and a link never does.
     pub fn put_in_free_place(self) -> Result<(), Failure> {
-        fs::hard_link(&self.written, &self.target).map_err(|error| self.failure(&error))?;
+        let linked = match fs::hard_link(&self.written, &self.target) {
+            // Some disks and shares have no links. There an empty file keeps the place until the file is renamed.
+            Err(error) if matches!(error.kind(), ErrorKind::Unsupported | ErrorKind::PermissionDenied) => {
+                let kept = OpenOptions::new().write(true).create_new(true).open(&self.target);
+                kept.and_then(|_empty| fs::rename(&self.written, &self.target))
+            }
+            linked => linked,
+        };
+        linked.map_err(|error| self.failure(&error))?;
         settle(&self.target);
         Ok(())
     }
@@ -89,8 +97,8 @@ impl Drop for Staged {
 /// The file that a path names, links followed, so that a link to it stays one.
 pub fn target(path: &Path) -> io::Result<PathBuf> {
     match fs::canonicalize(path) {
-        Err(error) if error.kind() == io::ErrorKind::NotFound => {
-            let name = path.file_name().ok_or_else(|| io::Error::from(io::ErrorKind::NotFound))?;
+        Err(error) if error.kind() == ErrorKind::NotFound => {
+            let name = path.file_name().ok_or_else(|| io::Error::from(ErrorKind::NotFound))?;
             Ok(fs::canonicalize(folder(path))?.join(name))
         }
         found => found,
@@ -102,12 +110,20 @@ pub fn target(path: &Path) -> io::Result<PathBuf> {
 pub fn sweep(target: &Path) {
     let (Ok(beginning), Ok(entries)) = (beginning(target), fs::read_dir(folder(target))) else { return };
     for entry in entries.flatten() {
-        let name = entry.file_name();
-        let bytes = name.as_encoded_bytes();
-        if bytes.starts_with(beginning.as_encoded_bytes()) && bytes.ends_with(ENDING.as_bytes()) {
+        if is_left(entry.file_name().as_encoded_bytes(), beginning.as_encoded_bytes()) {
             let _ = fs::remove_file(entry.path());
         }
     }
+}
+
+/// Whether a name is one that [`Staged`] gives beside a file: of `ward`, and not of `ward.2`.
+fn is_left(name: &[u8], beginning: &[u8]) -> bool {
+    let numbers = name.strip_prefix(beginning).and_then(|rest| rest.strip_suffix(ENDING.as_bytes()));
+    let is_number = |part: &[u8]| !part.is_empty() && part.iter().all(u8::is_ascii_digit);
+    numbers.is_some_and(|numbers| {
+        let parts: Vec<&[u8]> = numbers.split(|&byte| byte == b'-').collect();
+        parts.len() == 2 && parts.into_iter().all(is_number)
+    })
 }
 
 /// How the names of files beside this one begin.
@@ -135,5 +151,29 @@ fn keep_access(file: &File, old: &Metadata) -> io::Result<()> {
 fn settle(path: &Path) {
     if let Ok(folder) = File::open(folder(path)) {
         let _ = folder.sync_all();
+    }
+}
+
+#[cfg(test)]
+mod tests {
+    use super::*;
+
+    #[test]
+    fn only_what_was_left_beside_a_file_is_swept_away() {
+        let beginning = beginning(Path::new("/clinic/ward")).unwrap();
+        let is_left = |name: &str| is_left(name.as_bytes(), beginning.as_encoded_bytes());
+        assert!(is_left(".ward.4711-0.gelumbrio-new"));
+        for other in [
+            "ward",
+            ".ward.gelumbrio-new",
+            ".ward.4711.gelumbrio-new",
+            ".ward.-0.gelumbrio-new",
+            ".ward.2.4711-0.gelumbrio-new",
+            ".ward.1-2.4711-0.gelumbrio-new",
+            ".ward.4711-0.gelumbrio-new.old",
+            ".wards.4711-0.gelumbrio-new",
+        ] {
+            assert!(!is_left(other), "{other}");
+        }
     }
 }

@@ -1,8 +1,8 @@
 //! Where a character's shape stands that takes another room than its record has.
 //!
-//! Fonts draw brackets, points and middle dots in a square of the character's size, with an empty half; a record of them
-//! has half the size, and the other half is the space that the rules set, or do not. Western characters have widths of
-//! their own, and a record has the width that it says.
+//! Fonts draw brackets, points and middle dots in a square of the character's size, with an empty half; a record of
+//! them has half the size, and the other half is the space that the rules set, or do not. Western characters have widths
+//! of their own, and a record has the width that it says.
 
 use gelumbrio::Record;
 

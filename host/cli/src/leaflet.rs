@@ -43,6 +43,8 @@ pub struct Element {
     pub ruby: Vec<char>,
 }
 
+/// How a ruby element starts.
+const START: &str = "<ruby>";
 /// In bytes: far more than a slot's 256 characters need, far less than would not fit in memory.
 const LONGEST: u64 = 16 << 20;
 
@@ -125,41 +127,37 @@ fn lines(text: &str) -> Vec<&str> {
 }
 
 impl Reading {
-    /// What a leaflet reads as that the library has accepted: it is UTF-8, and its tags stand where they may.
+    /// What a leaflet reads as that the library has accepted: plain characters and ruby elements, in UTF-8.
     pub fn of(text: &[u8]) -> Reading {
         let mut reading = Reading::default();
         let text = String::from_utf8_lossy(text);
         let mut rest = &*text;
         while let Some(character) = rest.chars().next() {
             let offset = text.len() - rest.len();
-            if let Some(after) = rest.strip_prefix("<ruby>") {
-                let first = reading.letters.len();
-                reading.elements.push(Element { first, length: 0, ruby: Vec::new() });
-                rest = after;
-            } else if let Some((inside, after)) = element(rest, "rt") {
-                if let Some(open) = reading.elements.last_mut() {
-                    open.ruby = inside.chars().collect();
+            let element = rest.strip_prefix(START).and_then(|inside| inside.split_once("</ruby>"));
+            rest = match element {
+                Some((inside, after)) => {
+                    reading.element(inside, offset + START.len());
+                    after
                 }
-                rest = after;
-            } else if let Some((_, after)) = element(rest, "rp") {
-                rest = after;
-            } else if let Some(after) = rest.strip_prefix("</ruby>") {
-                if let Some(open) = reading.elements.last_mut() {
-                    open.length = reading.letters.len() - open.first;
+                None => {
+                    reading.letters.push(Letter { character, offset });
+                    &rest[character.len_utf8()..]
                 }
-                rest = after;
-            } else {
-                reading.letters.push(Letter { character, offset });
-                rest = &rest[character.len_utf8()..];
-            }
+            };
         }
         reading
     }
-}
 
-/// What stands in the element of this name with which a text starts, and what after it.
-fn element<'a>(text: &'a str, name: &str) -> Option<(&'a str, &'a str)> {
-    text.strip_prefix(&format!("<{name}>"))?.split_once(&format!("</{name}>"))
+    /// Reads what stands in a ruby element: a base up to the next tag, then an rt, which may have an rp on each side.
+    fn element(&mut self, inside: &str, offset: usize) {
+        let (base, over) = inside.split_at(inside.find('<').unwrap_or(inside.len()));
+        let rt = over.split_once("<rt>").and_then(|(_rp, rt)| rt.split_once("</rt>"));
+        let ruby: Vec<char> = rt.map_or("", |(ruby, _rp)| ruby).chars().collect();
+        self.elements.push(Element { first: self.letters.len(), length: base.chars().count(), ruby });
+        let letters = base.char_indices().map(|(at, character)| Letter { character, offset: offset + at });
+        self.letters.extend(letters);
+    }
 }
 
 #[cfg(test)]

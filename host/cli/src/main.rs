@@ -25,7 +25,7 @@ use std::io::{self, Write};
 use std::process::ExitCode;
 
 use commands::Done;
-use failure::Failure;
+use failure::{shown, Failure};
 use style::Style;
 
 fn main() -> ExitCode {
@@ -43,7 +43,7 @@ fn main() -> ExitCode {
 /// Writes what a command has to say. Everything that it had to do is done.
 fn written(done: &Done) -> Result<(), Failure> {
     for note in &done.notes {
-        tell(&format!("gelumbrio: note: {note}\n"));
+        tell(&format!("gelumbrio: note: {}\n", shown(note)));
     }
     let mut output = io::stdout().lock();
     match output.write_all(done.said.as_bytes()).and_then(|()| output.flush()) {

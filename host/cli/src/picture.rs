@@ -61,7 +61,8 @@ pub fn svg(paragraph: &Paragraph, title: &str, marks: bool) -> String {
     let mut svg = String::new();
     let mut put = |text: String| writeln!(svg, "{text}").expect("a string takes it");
     put(format!(
-        "<svg xmlns=\"http://www.w3.org/2000/svg\" xml:lang=\"ja\" lang=\"ja\" xml:space=\"preserve\" width=\"{:.0}\" height=\"{:.0}\" \
+        "<svg xmlns=\"http://www.w3.org/2000/svg\" xml:lang=\"ja\" lang=\"ja\" xml:space=\"preserve\" \
+         width=\"{:.0}\" height=\"{:.0}\" \
          viewBox=\"-{} 0 {width} {height}\">",
         width as f64 * scale,
         height as f64 * scale,
@@ -222,7 +223,8 @@ pub fn html(paragraph: &Paragraph, title: &str, marks: bool) -> String {
     format!(
         "<!DOCTYPE html>\n<html lang=\"ja\">\n<head>\n<meta charset=\"utf-8\">\n\
          <meta name=\"viewport\" content=\"width=device-width\">\n<title>{}</title>\n\
-         <style>body{{margin:0;background:#fff}}svg{{display:block;margin:0 auto;max-width:100%;height:auto}}</style>\n\
+         <style>body{{margin:0;background:#fff}}svg{{display:block;margin:0 auto;max-width:100%;height:auto}}\
+         </style>\n\
          </head>\n<body>\n{}</body>\n</html>\n",
         escaped(title),
         svg(paragraph, title, marks)

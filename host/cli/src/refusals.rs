@@ -8,7 +8,7 @@ use crate::characters::named;
 use crate::check;
 use crate::failure::{Failure, Refused, Spot};
 use crate::leaflet::{Leaflet, Reading};
-use crate::scratch;
+use crate::scratch::{self, MOST_RECORDS};
 
 /// A call on a slot of a sheet in a file.
 #[derive(Debug, Clone, Copy)]
@@ -34,8 +34,10 @@ pub struct Change<'a> {
     pub size: u32,
     /// The number that its first record has.
     pub at: usize,
-    /// All records that would result.
+    /// All records that would result; where the leaflet has more than a slot takes, not all of these.
     pub records: Vec<Record>,
+    /// How many would result.
+    pub count: usize,
 }
 
 /// A refused change of a slot: by what the sheet is and holds, or by the records that would result.
@@ -100,36 +102,49 @@ impl<'a> Change<'a> {
     /// A leaflet in place of all records.
     pub fn import(leaflet: &'a Leaflet, size: u32) -> Change<'a> {
         let reading = Reading::of(leaflet.text());
-        let records = scratch::records(&reading, size, &[]);
-        Change { leaflet: Some(leaflet), reading, size, at: 0, records }
+        let (records, count) = (scratch::records(&reading, size, &[]), reading.letters.len());
+        Change { leaflet: Some(leaflet), reading, size, at: 0, records, count }
     }
 
     /// A refusal by the records that would result, in lines of this measure after this indent.
     pub fn refused(&self, refusal: Refusal, measure: u32, indent: u32) -> Failure {
         let (record, (what, advice)) = match refusal {
-            Refusal::TooManyRecords => (256, self.too_many()),
-            Refusal::Record { record } => (record, self.own_rules(record as usize)),
-            Refusal::Group { record } => (record, self.too_long_base()),
-            Refusal::NoBreaking { record } => (record, self.too_wide(record, measure, indent)),
-            Refusal::NotListed { record } => (record, (refusal.to_string(), String::new())),
+            Refusal::TooManyRecords => (MOST_RECORDS, self.too_many()),
+            Refusal::Record { record } => (record as usize, self.own_rules(record as usize)),
+            Refusal::Group { record } => (record as usize, self.group_rule(record as usize)),
+            Refusal::NoBreaking { record } => (record as usize, self.too_wide(record, measure, indent)),
+            Refusal::NotListed { record } => (record as usize, (refusal.to_string(), String::new())),
             other => (0, (other.to_string(), String::new())),
         };
         Failure::from(Refused {
             number: Some(refusal.number()),
             what,
-            spot: Some(self.spot(record as usize)),
+            spot: Some(self.spot(record)),
             advice: Some(advice).filter(|advice| !advice.is_empty()).into_iter().collect(),
         })
     }
 
     fn too_many(&self) -> (String, String) {
-        let what = format!("the slot would have {} characters, and 256 are the most", self.records.len());
+        let what = format!("the slot would have {} characters, and {MOST_RECORDS} are the most", self.count);
         (what, "Part the text here or earlier, and put the rest into another slot.".to_string())
     }
 
-    fn too_long_base(&self) -> (String, String) {
-        let what = "this is the seventeenth character under one ruby, and 16 are the most".to_string();
-        (what, "Make two ruby elements of it.".to_string())
+    /// Why a record does not go with its group, which is refused with 9.
+    fn group_rule(&self, record: usize) -> (String, String) {
+        let is_alike =
+            |left: &Record, right: &Record| (left.size, left.ruby_count) == (right.size, right.ruby_count);
+        let before = record.checked_sub(1).map(|before| &self.records[before]);
+        match before.is_some_and(|before| is_alike(before, &self.records[record])) {
+            true => (
+                "this is the seventeenth character under one ruby, and 16 are the most".to_string(),
+                "Make two ruby elements of it.".to_string(),
+            ),
+            false => (
+                "this would come under one ruby with what is before it, and has another size or ruby"
+                    .to_string(),
+                "Leave a character between the two, or put both in anew.".to_string(),
+            ),
+        }
     }
 
     /// Why a record breaks its own rules, which is refused with 8.

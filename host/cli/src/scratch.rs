@@ -12,6 +12,8 @@ pub const CALLER: Clinic = Clinic(1);
 pub const MEASURES: RangeInclusive<u32> = 8..=1_000_000;
 /// Sizes, as document 01 limits them; they are multiples of 8.
 pub const SIZES: RangeInclusive<u32> = 8..=4_000;
+/// The most records that a slot can have.
+pub const MOST_RECORDS: usize = 256;
 
 /// A sheet of one slot, taken by [`CALLER`].
 pub fn fresh(measure: u32, indent: u32) -> Result<(Sheet, SlotNumber), Refusal> {
@@ -65,14 +67,15 @@ pub fn words(records: &[Record]) -> Vec<u32> {
     records.iter().flat_map(|record| record.words()).collect()
 }
 
-/// The records of an accepted leaflet, as an import makes them. Its groups get the lowest numbers that are not among
-/// those taken: next to a group of the same number they would be one with it.
+/// The records of an accepted leaflet, as an import makes them; of more than a slot takes, one more than it takes. Its
+/// groups get the lowest numbers that are not among those taken: next to a group of the same number they would be one
+/// with it.
 pub fn records(reading: &Reading, size: u32, taken: &[Record]) -> Vec<Record> {
     let mut records: Vec<Record> = characters(reading, size);
     let mut free = (1..).filter(|number| taken.iter().all(|record| record.group != *number));
     for element in &reading.elements {
         let group = free.next().unwrap_or(0);
-        for record in &mut records[element.first..element.first + element.length] {
+        for record in records.iter_mut().skip(element.first).take(element.length) {
             record.group = group;
             record.ruby_count = u32::try_from(element.ruby.len()).unwrap_or(u32::MAX);
         }
@@ -87,7 +90,7 @@ fn characters(reading: &Reading, size: u32) -> Vec<Record> {
         sheet.import(CALLER, slot, size, character.to_string()).ok()?;
         sheet.slot(slot)?.records().next()
     };
-    let letters = reading.letters.iter().map(|letter| letter.character);
+    let letters = reading.letters.iter().map(|letter| letter.character).take(MOST_RECORDS + 1);
     let record = |character| imported(character).unwrap_or_else(|| of_no_size(character, size));
     letters.map(record).collect()
 }

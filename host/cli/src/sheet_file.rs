@@ -1,8 +1,8 @@
 //! A sheet in a file: its words, little-endian, and nothing else.
 //!
 //! A program that changes a sheet holds a lock on the sheet's own file. As that file is renamed over by whoever has
-//! changed it, a program that gets the lock looks whether its file still is the sheet's, and else begins again. One that
-//! only reads needs no lock: the file that it opened is never written to.
+//! changed it, a program that gets the lock looks whether its file still is the sheet's, and else begins again. One
+//! that only reads needs no lock: the file that it opened is never written to.
 
 use std::fs::{self, File, OpenOptions};
 use std::io::{self, Read};

@@ -1,9 +1,9 @@
 //! A paragraph's lines for a terminal, where a wide character takes two columns.
 //!
-//! A column is half a character, so solid text is solid. A half-width bracket or point is still two columns wide there,
-//! and lies over the space that the rules set beside it. Where they set none, the rest of the line moves to the right. Ruby
-//! characters are as large as others, so ruby stands over where its base starts, and in a row above where it would run
-//! into other ruby.
+//! A column is half a character, so solid text is solid. A half-width bracket or point is still two columns wide
+//! there, and lies over the space that the rules set beside it. Where they set none, the rest of the line moves to the
+//! right. Ruby characters are as large as others, so ruby stands over where its base starts, and in a row above where
+//! it would run into other ruby.
 
 use gelumbrio::{Kind, Line};
 

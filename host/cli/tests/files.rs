@@ -153,9 +153,9 @@ fn links_and_permissions_stay() {
 fn what_a_killed_program_left_is_swept_away() {
     let folder = Folder::with_sheet();
     folder.write(".ward.1-0.gelumbrio-new", "half a sheet");
-    folder.write(".other.1-0.gelumbrio-new", "another's");
+    folder.write(".ward.2.1-0.gelumbrio-new", "that of a sheet called ward.2");
     folder.write(".ward.note", "a person's");
     folder.run(&["give", "ward", "--clinic", "7", "--slot", "0"]).accepted();
-    assert_eq!(folder.names(), [".other.1-0.gelumbrio-new", ".ward.note", "ward"]);
+    assert_eq!(folder.names(), [".ward.2.1-0.gelumbrio-new", ".ward.note", "ward"]);
     assert!(Path::new(&folder.file("ward")).exists());
 }

@@ -46,22 +46,16 @@ fn the_examples_of_help_run() {
     let bin = std::path::Path::new(PROGRAM).parent().unwrap();
     let path = format!("{}:{}", bin.display(), std::env::var("PATH").unwrap_or_default());
     let mut count = 0;
-    let before = ["take", "import", "show"];
+    let dose = ["import", "ward.sheet", "--clinic", "7", "--slot", "0", "examples/dose.html"];
     for words in COMMANDS {
         let help = run(&[words, &["--help"]].concat()).accepted();
         for example in help.split("\nExample").nth(1).unwrap().lines().filter(|line| line.starts_with("  ")) {
-            if words == ["sheet", "new"] {
-                let _ = std::fs::remove_file(folder.file("ward.sheet"));
-            }
-            if words[0] == before[1] || words[0] == before[2] {
-                let _ = folder.run(&["take", "ward.sheet", "--clinic", "7"]);
-            }
-            if words[0] == "give" {
-                let _ = folder.run(&["take", "ward.sheet", "--clinic", "7"]);
-            }
-            if words[0] == "edit" || words[0] == "show" {
-                let dose = ["import", "ward.sheet", "--clinic", "7", "--slot", "0", "examples/dose.html"];
-                folder.run(&dose).accepted();
+            // What the example needs is there: no sheet for a new one, else a slot taken, with a text.
+            match words[0] {
+                "sheet" if words[1] == "new" => drop(std::fs::remove_file(folder.file("ward.sheet"))),
+                "give" | "import" => drop(folder.run(&["take", "ward.sheet", "--clinic", "7"])),
+                "edit" | "show" => drop(folder.run(&dose).accepted()),
+                _ => {}
             }
             let ran = Command::new("sh")
                 .args(["-c", example])

@@ -80,7 +80,8 @@ pub fn edit(mut arguments: Arguments) -> Result<Done, Failure> {
     let mut sheet = old.clone();
     let edited = sheet.edit(clinic, slot, at, deleted, &scratch::words(&inserted)).map_err(|refusal| {
         let records = spliced(&stored, &stretch, &inserted);
-        let change = Change { leaflet: leaflet.as_ref(), reading, size, at: stretch.at, records };
+        let count = records.len() - inserted.len() + reading.letters.len();
+        let change = Change { leaflet: leaflet.as_ref(), reading, size, at: stretch.at, records, count };
         of_change(call, &change, refusal)
     })?;
     locked.replace(&sheet)?;
