@@ -6,18 +6,11 @@ use std::fs;
 
 use common::{root, run, Folder};
 
-/// Each example that is no fault, and how it is composed.
+/// Each example that is no fault, and how it is composed for its picture.
 const EXAMPLES: [(&str, &[&str]); 2] = [
     ("dose", &["--chars", "22", "--indent", "1"]),
     ("aftercare", &["--chars", "22", "--indent", "1", "--marks"]),
 ];
-
-/// A file that stands in the repository and must be what the program writes.
-fn kept(name: &str, written: &str) {
-    let path = root().join(name);
-    let kept = fs::read_to_string(&path).unwrap_or_default();
-    assert_eq!(kept, written, "{name} is not what the program writes");
-}
 
 #[test]
 fn each_example_has_its_picture() {
@@ -26,10 +19,10 @@ fn each_example_has_its_picture() {
         let (svg, html) = (folder.file("x.svg"), folder.file("x.html"));
         let leaflet = format!("examples/{name}.html");
         let pictures = ["--svg", svg.to_str().unwrap(), "--html", html.to_str().unwrap()];
-        let lines = run(&[&["compose", &leaflet], options, &pictures].concat()).accepted();
+        run(&[&["compose", &leaflet], options, &pictures].concat()).accepted();
         let drawn = String::from_utf8(folder.read("x.svg")).unwrap();
-        kept(&format!("docs/pictures/{name}.svg"), &drawn);
-        kept(&format!("docs/pictures/{name}.txt"), &lines);
+        let kept = fs::read_to_string(root().join(format!("docs/pictures/{name}.svg"))).unwrap_or_default();
+        assert_eq!(drawn, kept, "docs/pictures/{name}.svg is another picture than the program's");
 
         let page = String::from_utf8(folder.read("x.html")).unwrap();
         assert!(page.starts_with("<!DOCTYPE html>\n<html lang=\"ja\">") && page.contains(&drawn), "{page}");
@@ -37,10 +30,24 @@ fn each_example_has_its_picture() {
     }
 }
 
+/// Each command of the README after which it shows what the program says.
 #[test]
-fn the_example_with_a_fault_is_refused() {
-    let said = run(&["compose", "examples/fault.html", "--chars", "22"]).refused();
-    kept("docs/pictures/fault.txt", &said);
+fn the_readme_shows_what_the_program_says() {
+    let readme = fs::read_to_string(root().join("README.md")).expect("the README");
+    let mut count = 0;
+    for shown in readme.split("```sh\n").skip(1) {
+        let Some((commands, said)) = shown.split_once("```\n\n```text\n") else { continue };
+        let Some((said, _)) = said.split_once("```\n") else { continue };
+        if commands.contains("```") {
+            continue;
+        }
+        let command = commands.lines().last().expect("a command");
+        let arguments = command.strip_prefix("host/target/release/gelumbrio ").expect("this program");
+        let run = run(&arguments.split(' ').collect::<Vec<_>>());
+        assert_eq!(run.out + &run.err, said, "{command}");
+        count += 1;
+    }
+    assert_eq!(count, 2);
 }
 
 /// What a leaflet looks like at a measure of so many characters, with more options.
