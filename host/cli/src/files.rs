@@ -6,7 +6,7 @@
 use std::ffi::{OsStr, OsString};
 use std::fs::{self, File, Metadata, OpenOptions, Permissions};
 use std::io::{self, ErrorKind, Write};
-use std::os::unix::fs::{fchown, MetadataExt, PermissionsExt};
+use std::os::unix::fs::{fchown, MetadataExt, OpenOptionsExt, PermissionsExt};
 use std::path::{Path, PathBuf};
 use std::process;
 
@@ -34,7 +34,9 @@ impl Staged {
         if old.as_ref().is_some_and(|old| !old.is_file()) {
             return Err(io::Error::other("it is there, and is no file that could be replaced"));
         }
-        let (staged, mut file) = Staged::beside(target)?;
+        // Nobody may read it meanwhile who may not read the file that it replaces.
+        let mode = if old.is_some() { 0o600 } else { 0o666 };
+        let (staged, mut file) = Staged::beside(target, mode)?;
         file.write_all(content)?;
         if let Some(old) = old {
             keep_access(&file, &old)?;
@@ -44,14 +46,14 @@ impl Staged {
     }
 
     /// A new file beside another, under a name that nobody else has.
-    fn beside(target: PathBuf) -> io::Result<(Staged, File)> {
+    fn beside(target: PathBuf, mode: u32) -> io::Result<(Staged, File)> {
         let folder = folder(&target);
         let mut attempt = 0;
         loop {
             let mut name = beginning(&target)?;
             name.push(format!("{}-{attempt}{ENDING}", process::id()));
             let written = folder.join(name);
-            match OpenOptions::new().write(true).create_new(true).open(&written) {
+            match OpenOptions::new().write(true).create_new(true).mode(mode).open(&written) {
                 Ok(file) => return Ok((Staged { written, target }, file)),
                 // It was left by a program of this number that was killed.
                 Err(error) if error.kind() == ErrorKind::AlreadyExists => attempt += 1,

@@ -5,6 +5,8 @@ use std::fs::File;
 use std::io::{self, Read};
 use std::path::Path;
 
+use gelumbrio::TextPlace;
+
 use crate::failure::{Failure, Spot};
 
 /// A leaflet's text, and what its file is called.
@@ -78,16 +80,11 @@ impl Leaflet {
 
     /// A place in the text, for a person: so many characters from this byte on.
     pub fn spot(&self, offset: usize, length: usize) -> Spot {
-        let (before, after) = self.text.split_at(offset.min(self.text.len()));
-        let (before, after) = (String::from_utf8_lossy(before), String::from_utf8_lossy(after));
-        let starts: Vec<&str> = lines(&before);
-        let start = *starts.last().expect("a text has a line");
-        let column = start.chars().count();
-        let rest = lines(&after)[0];
+        let TextPlace { line, column, text } = TextPlace::of(&self.text, offset);
         Spot {
-            name: format!("{}, line {}, column {}", self.name, starts.len(), column + 1),
-            line: format!("{start}{rest}"),
-            before: column,
+            name: format!("{}, line {line}, column {column}", self.name),
+            line: text,
+            before: column - 1,
             length,
         }
     }
@@ -111,19 +108,6 @@ fn without_marks(mut bytes: Vec<u8>) -> Vec<u8> {
         bytes.drain(..'\u{FEFF}'.len_utf8());
     }
     bytes
-}
-
-/// The lines of a text, at least one. LF, CR LF and CR end a line.
-fn lines(text: &str) -> Vec<&str> {
-    let mut lines = Vec::new();
-    let mut rest = text;
-    while let Some(at) = rest.find(['\n', '\r']) {
-        lines.push(&rest[..at]);
-        let end = if rest[at..].starts_with("\r\n") { 2 } else { 1 };
-        rest = &rest[at + end..];
-    }
-    lines.push(rest);
-    lines
 }
 
 impl Reading {
@@ -163,24 +147,6 @@ impl Reading {
 #[cfg(test)]
 mod tests {
     use super::*;
-
-    fn spot(text: &str, offset: usize) -> (String, String, usize) {
-        let leaflet = Leaflet { name: "x".to_string(), text: text.as_bytes().to_vec() };
-        let spot = leaflet.spot(offset, 1);
-        (spot.name, spot.line, spot.before)
-    }
-
-    #[test]
-    fn a_place_has_a_line_and_a_column() {
-        let at = |line, column| format!("x, line {line}, column {column}");
-        assert_eq!(spot("食後", 3), (at(1, 2), "食後".to_string(), 1));
-        assert_eq!(spot("食後", 6), (at(1, 3), "食後".to_string(), 2));
-        assert_eq!(spot("食\n後に\r\n薬", 7), (at(2, 2), "後に".to_string(), 1));
-        assert_eq!(spot("食\r後", 4), (at(2, 1), "後".to_string(), 0));
-        assert_eq!(spot("", 0), (at(1, 1), String::new(), 0));
-        // The line's end itself is the last place of its line.
-        assert_eq!(spot("食\n後", 3), (at(1, 2), "食".to_string(), 1));
-    }
 
     #[test]
     fn a_file_has_marks_that_a_leaflet_has_not() {

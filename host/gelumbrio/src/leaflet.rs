@@ -3,6 +3,7 @@
 use std::fmt;
 
 use crate::class_of;
+use crate::place::TextPlace;
 
 /// Where the first fault of an imported text is, and what stands there.
 ///
@@ -99,18 +100,9 @@ impl fmt::Debug for Excerpt {
 impl LeafletFault {
     /// The fault at this byte of a text, or at its end where there is no such byte.
     pub(crate) fn at(text: &[u8], offset: usize) -> LeafletFault {
-        let (before, rest) = text.split_at(offset.min(text.len()));
-        let (line, column) = line_and_column(&String::from_utf8_lossy(before));
-        LeafletFault { offset, line, column, found: Found::first_of(rest) }
+        let TextPlace { line, column, .. } = TextPlace::of(text, offset);
+        LeafletFault { offset, line, column, found: Found::first_of(&text[offset.min(text.len())..]) }
     }
-}
-
-/// Where the next character stands after this text.
-fn line_and_column(before: &str) -> (usize, usize) {
-    let without_cr_lf = before.replace("\r\n", "\n");
-    let mut lines = without_cr_lf.split(['\n', '\r']);
-    let line = lines.clone().count();
-    (line, lines.next_back().map_or(0, |last| last.chars().count()) + 1)
 }
 
 impl Found {

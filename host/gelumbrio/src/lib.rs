@@ -72,12 +72,14 @@
 //! ```
 
 mod leaflet;
+mod place;
 pub mod raw;
 mod refusal;
 mod sheet;
 mod slot;
 
 pub use leaflet::{Excerpt, Found, LeafletFault};
+pub use place::TextPlace;
 pub use raw::{Clinic, SlotNumber};
 pub use refusal::Refusal;
 pub use sheet::{
