@@ -114,7 +114,9 @@ impl Arguments {
         if grammar.once.contains(&option) && self.value(option).is_some() {
             return Err(self.wrong(format!("--{option} is given twice")));
         }
-        let Some(value) = joined.or_else(|| rest.next().cloned()) else {
+        // What looks like an option is one; a value that does is joined by `=`.
+        let next = || rest.next().filter(|next| !next.as_bytes().starts_with(b"--")).cloned();
+        let Some(value) = joined.or_else(next).filter(|value| !value.is_empty()) else {
             return Err(self.wrong(format!("--{option} needs a value")));
         };
         self.values.push((option, value));
@@ -256,6 +258,8 @@ mod tests {
             &[][..],
             &["x", "y", "z"],
             &["x", "--svg"],
+            &["x", "--svg="],
+            &["x", "--svg", "--marks"],
             &["x", "--svg=a", "--svg=b"],
             &["x", "--marks=1"],
             &["x", "--mark"],

@@ -42,14 +42,8 @@ const COMBINING: [(u32, u32); 9] = [
 ];
 
 /// Characters without a shape that turn, hide or part what stands around them.
-const FORMATTING: [(u32, u32); 6] = [
-    (0x00AD, 0x00AD),
-    (0x061C, 0x061C),
-    (0x200B, 0x200F),
-    (0x2028, 0x202E),
-    (0x2060, 0x206F),
-    (0xFEFF, 0xFEFF),
-];
+const FORMATTING: [(u32, u32); 5] =
+    [(0x061C, 0x061C), (0x200B, 0x200F), (0x2028, 0x202E), (0x2060, 0x206F), (0xFEFF, 0xFEFF)];
 
 fn is_in(ranges: &[(u32, u32)], character: char) -> bool {
     let code = u32::from(character);

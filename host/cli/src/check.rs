@@ -16,7 +16,7 @@ pub enum State {
     InUse,
     /// Its records can be composed, but its other words are not what the rules give. An edit mends it.
     Stale,
-    /// It is not in use, but has a text: it was filled before there were takings.
+    /// It is not in use, but not empty either: it was filled before there were takings.
     Waiting,
     /// Every edit of it is refused with 4. Only a set-up mends it.
     Damaged(String),
@@ -36,6 +36,7 @@ pub fn state(slot: Slot<'_>) -> State {
         (0, _) if !is_empty => State::Waiting,
         (0, 0) => State::Unassigned,
         (0, _) => State::Free,
+        (_, 0) => State::Damaged("it is in use by nobody".to_string()),
         _ if composed(slot).as_ref() == Some(slot.words()) => State::InUse,
         _ => State::Stale,
     }

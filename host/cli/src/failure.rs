@@ -82,6 +82,9 @@ impl Failure {
         let failure = Failure::plain(format!("cannot write {name}: {}", reason(error)));
         match error.kind() {
             io::ErrorKind::NotFound => failure.advising("Is its name spelt right, and is its folder there?"),
+            io::ErrorKind::AlreadyExists => {
+                failure.advising("It would be lost: name another file, or move this one away first.")
+            }
             io::ErrorKind::PermissionDenied => failure.advising(
                 "A file is replaced by a new one beside it: both it and its folder must be writable.",
             ),

@@ -9,17 +9,27 @@ use std::io::{self, ErrorKind, Write};
 use std::os::unix::fs::{fchown, MetadataExt, OpenOptionsExt, PermissionsExt};
 use std::path::{Path, PathBuf};
 use std::process;
+use std::time::Duration;
 
 use crate::failure::Failure;
 
 /// How the name of a file ends that is not in place yet.
 const ENDING: &str = ".gelumbrio-new";
 
+/// How long what a killed program has left beside a picture lies there at least. No program needs as long to write one.
+const AN_HOUR: Duration = Duration::from_secs(3_600);
+
 /// A file that is written and not yet in place. It is removed again unless it is put there.
 #[derive(Debug)]
 pub struct Staged {
-    written: PathBuf,
+    /// What the file was called that it is for.
+    named: PathBuf,
+    /// Where that is.
     target: PathBuf,
+    /// Where it was written.
+    written: PathBuf,
+    /// Whether it is still there.
+    is_there: bool,
 }
 
 impl Staged {
@@ -31,12 +41,17 @@ impl Staged {
     fn write(path: &Path, content: &[u8]) -> io::Result<Staged> {
         let target = target(path)?;
         let old = fs::metadata(&target).ok();
-        if old.as_ref().is_some_and(|old| !old.is_file()) {
-            return Err(io::Error::other("it is there, and is no file that could be replaced"));
+        if let Some(old) = &old {
+            if !old.is_file() {
+                return Err(io::Error::other("it is there, and is no file that could be replaced"));
+            }
+            // Who may not write the file does not replace it either.
+            OpenOptions::new().write(true).open(&target)?;
         }
+        sweep(&target, AN_HOUR);
         // Nobody may read it meanwhile who may not read the file that it replaces.
         let mode = if old.is_some() { 0o600 } else { 0o666 };
-        let (staged, mut file) = Staged::beside(target, mode)?;
+        let (staged, mut file) = Staged::beside(path, target, mode)?;
         file.write_all(content)?;
         if let Some(old) = old {
             keep_access(&file, &old)?;
@@ -46,7 +61,7 @@ impl Staged {
     }
 
     /// A new file beside another, under a name that nobody else has.
-    fn beside(target: PathBuf, mode: u32) -> io::Result<(Staged, File)> {
+    fn beside(named: &Path, target: PathBuf, mode: u32) -> io::Result<(Staged, File)> {
         let folder = folder(&target);
         let mut attempt = 0;
         loop {
@@ -54,28 +69,42 @@ impl Staged {
             name.push(format!("{}-{attempt}{ENDING}", process::id()));
             let written = folder.join(name);
             match OpenOptions::new().write(true).create_new(true).mode(mode).open(&written) {
-                Ok(file) => return Ok((Staged { written, target }, file)),
-                // It was left by a program of this number that was killed.
+                Ok(file) => {
+                    let named = named.to_path_buf();
+                    return Ok((Staged { named, target, written, is_there: true }, file));
+                }
+                // It was left by a program of this number that was killed, or is that of another machine's.
                 Err(error) if error.kind() == ErrorKind::AlreadyExists => attempt += 1,
                 Err(error) => return Err(error),
             }
         }
     }
 
+    /// The file whose place it takes.
+    pub fn target(&self) -> &Path {
+        &self.target
+    }
+
     /// Puts the file in its place, over the one that is there.
-    pub fn put_in_place(self) -> Result<(), Failure> {
-        fs::rename(&self.written, &self.target).map_err(|error| self.failure(&error))?;
+    pub fn put_in_place(mut self) -> Result<(), Failure> {
+        self.rename().map_err(|error| self.failure(&error))
+    }
+
+    fn rename(&mut self) -> io::Result<()> {
+        fs::rename(&self.written, &self.target)?;
+        // The name may be another program's by now.
+        self.is_there = false;
         settle(&self.target);
         Ok(())
     }
 
     /// Puts the file in its place, unless there is one: renaming would replace it, and a link never does.
-    pub fn put_in_free_place(self) -> Result<(), Failure> {
+    pub fn put_in_free_place(mut self) -> Result<(), Failure> {
         let linked = match fs::hard_link(&self.written, &self.target) {
             // Some disks and shares have no links. There an empty file keeps the place until the file is renamed.
             Err(error) if matches!(error.kind(), ErrorKind::Unsupported | ErrorKind::PermissionDenied) => {
                 let kept = OpenOptions::new().write(true).create_new(true).open(&self.target);
-                kept.and_then(|_empty| fs::rename(&self.written, &self.target))
+                kept.and_then(|_empty| self.rename())
             }
             linked => linked,
         };
@@ -85,34 +114,41 @@ impl Staged {
     }
 
     fn failure(&self, error: &io::Error) -> Failure {
-        Failure::writing(self.target.display(), error)
+        Failure::writing(self.named.display(), error)
     }
 }
 
 impl Drop for Staged {
-    /// Takes the name away under which it was written. What is in place has lost that name, or has another beside it.
+    /// Takes away the name under which it was written, if it still has it.
     fn drop(&mut self) {
-        let _ = fs::remove_file(&self.written);
+        if self.is_there {
+            let _ = fs::remove_file(&self.written);
+        }
     }
 }
 
 /// The file that a path names, links followed, so that a link to it stays one.
-pub fn target(path: &Path) -> io::Result<PathBuf> {
+fn target(path: &Path) -> io::Result<PathBuf> {
     match fs::canonicalize(path) {
         Err(error) if error.kind() == ErrorKind::NotFound => {
-            let name = path.file_name().ok_or_else(|| io::Error::from(ErrorKind::NotFound))?;
+            if fs::symlink_metadata(path).is_ok() {
+                return Err(io::Error::other("it is a link to a file that is not there"));
+            }
+            let name = path.file_name().ok_or(error)?;
             Ok(fs::canonicalize(folder(path))?.join(name))
         }
         found => found,
     }
 }
 
-/// Removes what killed programs have left beside a file, as far as that can be done. Nobody else may be writing there
-/// meanwhile.
-pub fn sweep(target: &Path) {
+/// Removes what killed programs have left beside a file at least so long ago, as far as that can be done. What may be a
+/// running program's must be younger.
+pub fn sweep(target: &Path, age: Duration) {
     let (Ok(beginning), Ok(entries)) = (beginning(target), fs::read_dir(folder(target))) else { return };
     for entry in entries.flatten() {
-        if is_left(entry.file_name().as_encoded_bytes(), beginning.as_encoded_bytes()) {
+        let is_old = || Some(entry.metadata().ok()?.modified().ok()?.elapsed().ok()? >= age);
+        let is_left = is_left(entry.file_name().as_encoded_bytes(), beginning.as_encoded_bytes());
+        if is_left && (age.is_zero() || is_old() == Some(true)) {
             let _ = fs::remove_file(entry.path());
         }
     }
@@ -141,11 +177,14 @@ fn folder(path: &Path) -> &Path {
     }
 }
 
-/// Lets the same people read and write a new file as an old one.
+/// Lets the same people read and write a new file as an old one. Where the system does not let its group be kept, the
+/// group that it has may do no more than others may.
 fn keep_access(file: &File, old: &Metadata) -> io::Result<()> {
-    // One who may write the file may not always give it away; the rest of its permissions are kept then.
-    let _ = fchown(file, None, Some(old.gid()));
-    file.set_permissions(Permissions::from_mode(old.mode() & 0o777))
+    let is_kept =
+        fchown(file, Some(old.uid()), Some(old.gid())).is_ok() || fchown(file, None, Some(old.gid())).is_ok();
+    let mode = old.mode() & 0o777;
+    let mode = if is_kept { mode } else { mode & !0o070 | mode & (mode << 3) & 0o070 };
+    file.set_permissions(Permissions::from_mode(mode))
 }
 
 /// Makes a new name last through a power failure. Where a system cannot, the old name's file or the new one's is there

@@ -46,7 +46,8 @@ pub fn of(command: &str) -> String {
 gelumbrio compose LEAFLET --chars N [--size N] [--indent N] [--svg FILE] [--html FILE] [--marks] [--json]
 
 Composes a leaflet and shows its lines. LEAFLET is a file, or - for standard input; the end of its last line is no part
-of it.
+of it. A terminal's column is half a character, and marks that are half as wide take two, so a line with many of them
+looks longer there than in the picture.
 
   --chars N       a line has the length of so many characters
   --measure N     or of so many units, of which a character has --size

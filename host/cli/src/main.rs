@@ -49,6 +49,8 @@ fn written(done: &Done) -> Result<(), Failure> {
     match output.write_all(done.said.as_bytes()).and_then(|()| output.flush()) {
         // Nobody reads on, as with `| head`.
         Err(error) if error.kind() == io::ErrorKind::BrokenPipe => Ok(()),
+        Err(error) if done.is_change => Err(Failure::writing("standard output", &error)
+            .advising(format!("The sheet is changed all the same: {}", done.said.trim_end()))),
         Err(error) => Err(Failure::writing("standard output", &error)),
         Ok(()) => Ok(()),
     }

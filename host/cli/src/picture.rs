@@ -1,14 +1,14 @@
 //! A paragraph as a picture in SVG, in the sheet's own units.
 //!
-//! The x of every character is the one that the sheet has; where a shape must stand elsewhere, its element is moved.
-//! Neighbours that are drawn alike are one element, so that a text can be found and copied.
+//! The x of every character is the one that the sheet has; where its shape must stand elsewhere, a dx says how far.
+//! A line is one element, so that a text can be found and copied, but for characters that are made narrower or smaller.
 
 use std::fmt::Write;
 
-use gelumbrio::{Line, Record};
+use gelumbrio::Line;
 
-use crate::characters::{is_wide, printable};
-use crate::glyph::{drawn, Drawn};
+use crate::characters::printable;
+use crate::glyph::{Drawn, Shape};
 use crate::paragraph::{Group, Paragraph};
 use crate::terminal::kind;
 
@@ -69,16 +69,15 @@ pub fn svg(paragraph: &Paragraph, title: &str, marks: bool) -> String {
         layout.left,
     ));
     put(format!("<title>{}</title>", escaped(title)));
+    let text: String = paragraph.records.iter().filter_map(|record| record.character()).collect();
+    put(format!("<desc>{}</desc>", escaped(&text)));
     put(style(marks));
     put(format!(
         "<rect class=\"paper\" x=\"-{}\" y=\"0\" width=\"{width}\" height=\"{height}\"/>",
         layout.left
     ));
-    let (top, thin) = (layout.top - layout.em / 2, f64::from(layout.em) / 80.0);
-    put(format!(
-        "<path class=\"edge\" stroke-width=\"{thin}\" d=\"M0 {top}V{bottom}M{} {top}V{bottom}\"/>",
-        paragraph.measure
-    ));
+    let (top, measure) = (layout.top - layout.em / 2, paragraph.measure);
+    put(format!("<path class=\"edge\" d=\"M0 {top}V{bottom}M{measure} {top}V{bottom}\"/>"));
     for (number, line) in paragraph.lines.iter().enumerate() {
         put(format!("<g transform=\"translate(0 {})\">", layout.baseline(number)));
         if marks {
@@ -99,7 +98,7 @@ fn style(marks: bool) -> String {
                   .amount,.number{text-anchor:middle}";
     format!(
         "<style>text{{font-family:{FONTS};fill:#000;font-kerning:none}}.middle{{text-anchor:middle}}\
-         .paper{{fill:#fff}}.edge{{stroke:#6aa9d8;fill:none}}.unknown{{fill:none;stroke:#999}}{}</style>",
+         .paper{{fill:#fff}}.edge{{stroke:#6aa9d8;stroke-width:.7;vector-effect:non-scaling-stroke}}.unknown{{fill:none;stroke:#999}}{}</style>",
         if marks { marked } else { "" }
     )
 }
@@ -136,33 +135,9 @@ fn line_marks(
 /// The characters of a line.
 fn characters(paragraph: &Paragraph, line: &Line, put: &mut impl FnMut(String)) {
     let records = &paragraph.records[paragraph.records_of(line)];
-    let placed: Vec<(Record, u32)> = records.iter().copied().zip(line.xs.iter().copied()).collect();
-    for run in placed.chunk_by(|(left, _), (right, _)| is_one_run(left, right)) {
-        let (first, _) = run[0];
-        let shape = match drawn(&first) {
-            Drawn::FromStart { before: 0 } => String::new(),
-            Drawn::FromStart { before } => format!(" transform=\"translate(-{before} 0)\""),
-            Drawn::InMiddle => format!(" class=\"middle\" transform=\"translate({} 0)\"", first.advance / 2),
-            Drawn::Fitted => {
-                format!(" textLength=\"{}\" lengthAdjust=\"spacingAndGlyphs\"", first.advance)
-            }
-        };
-        let xs: Vec<u32> = run.iter().map(|&(_, x)| x).collect();
-        let text: Vec<char> = run.iter().map(|(record, _)| shown(record)).collect();
-        put(text_element(&shape, first.size, &xs, 0, &text));
-    }
-}
-
-/// Whether two neighbours can be one element: the same is done to both, and each x is one character's. Positions are
-/// counted in units of 16 bits, of which a character past U+FFFF has two.
-fn is_one_run(left: &Record, right: &Record) -> bool {
-    let is_alike = left.size == right.size && left.advance == right.advance && drawn(left) == drawn(right);
-    let is_short = |record: &Record| record.code_point <= 0xFFFF;
-    is_alike && drawn(left) != Drawn::Fitted && is_short(left) && is_short(right)
-}
-
-fn shown(record: &Record) -> char {
-    printable(record.character().unwrap_or(crate::characters::REPLACEMENT))
+    let shapes: Vec<Shape> =
+        records.iter().zip(&line.xs).map(|(record, &x)| Shape::of_record(record, x)).collect();
+    elements(&shapes, 0, put);
 }
 
 /// A group's ruby, directly above the squares of its base.
@@ -172,35 +147,72 @@ fn ruby(paragraph: &Paragraph, group: &Group, put: &mut impl FnMut(String)) {
     // The base's square reaches 0.88 of its size up, the ruby's 0.12 of its own down.
     let up = size * 22 / 25 + half * 3 / 25;
     let Some(ruby) = &group.ruby else {
+        let (y, radius, thin) = (up + half / 3, half / 4, f64::from(size) / 40.0);
         for x in &group.ruby_xs {
-            let (x, y, radius) = (x + half / 2, up + half / 3, half / 4);
+            let x = x + half / 2;
             put(format!(
-                "<circle class=\"unknown\" stroke-width=\"2\" cx=\"{x}\" cy=\"-{y}\" r=\"{radius}\"/>"
+                "<circle class=\"unknown\" stroke-width=\"{thin}\" cx=\"{x}\" cy=\"-{y}\" r=\"{radius}\"/>"
             ));
         }
         return;
     };
-    let placed: Vec<(char, u32)> = ruby.iter().copied().zip(group.ruby_xs.iter().copied()).collect();
-    let is_one_run = |&(left, _): &(char, u32), &(right, _): &(char, u32)| {
-        is_wide(left) == is_wide(right) && u32::from(left.max(right)) <= 0xFFFF
-    };
-    for run in placed.chunk_by(is_one_run) {
-        let shape = match is_wide(run[0].0) {
-            true => String::new(),
-            false => format!(" class=\"middle\" transform=\"translate({} 0)\"", half / 2),
-        };
-        let xs: Vec<u32> = run.iter().map(|&(_, x)| x).collect();
-        let text: Vec<char> = run.iter().map(|&(character, _)| printable(character)).collect();
-        put(text_element(&shape, half, &xs, up, &text));
+    let shapes: Vec<Shape> =
+        ruby.iter().zip(&group.ruby_xs).map(|(&character, &x)| Shape::of_ruby(character, half, x)).collect();
+    elements(&shapes, up, put);
+}
+
+/// Characters, each at its x, so far above the line that they stand on.
+fn elements(shapes: &[Shape], up: u32, put: &mut impl FnMut(String)) {
+    let is_one = |left: &Shape, right: &Shape| left.joins() && right.joins() && left.size == right.size;
+    for run in shapes.chunk_by(is_one) {
+        put(element(run, up));
     }
 }
 
-/// Characters, each at its x.
-fn text_element(shape: &str, size: u32, xs: &[u32], up: u32, text: &[char]) -> String {
-    let xs: Vec<String> = xs.iter().map(u32::to_string).collect();
+/// One element of characters, which are drawn as they are or are a single one.
+fn element(shapes: &[Shape], up: u32) -> String {
+    let Shape { size, advance, drawn, .. } = shapes[0];
+    let xs: Vec<String> = shapes.iter().map(|shape| shape.x.to_string()).collect();
+    let (size, up, more) = match drawn {
+        Drawn::Condensed => {
+            (size, up, format!(" textLength=\"{advance}\" lengthAdjust=\"spacingAndGlyphs\""))
+        }
+        // The middle of its square stays where it is, 0.38 of the size above the line.
+        Drawn::Smaller => (advance, up + (size - advance) * 19 / 50, String::new()),
+        Drawn::FromStart { .. } | Drawn::InMiddle => (size, up, shifts(shapes)),
+    };
     let y = if up == 0 { String::new() } else { format!(" y=\"-{up}\"") };
-    let text = escaped(&text.iter().collect::<String>());
-    format!("<text font-size=\"{size}\" x=\"{}\"{y}{shape}>{text}</text>", xs.join(" "))
+    format!("<text font-size=\"{size}\" x=\"{}\"{y}{more}>{}</text>", xs.join(" "), content(shapes))
+}
+
+/// How far from its x each character's start is, or its middle, where that is not 0 for all.
+fn shifts(shapes: &[Shape]) -> String {
+    let shift = |shape: &Shape| match shape.drawn {
+        Drawn::FromStart { before } => -i64::from(before),
+        Drawn::InMiddle => i64::from(shape.advance / 2),
+        Drawn::Condensed | Drawn::Smaller => 0,
+    };
+    match shapes.iter().all(|shape| shift(shape) == 0) {
+        true => String::new(),
+        false => {
+            let shifts: Vec<String> = shapes.iter().map(|shape| shift(shape).to_string()).collect();
+            format!(" dx=\"{}\"", shifts.join(" "))
+        }
+    }
+}
+
+/// The characters of an element. Those whose middle is placed are in an element of their own inside it.
+fn content(shapes: &[Shape]) -> String {
+    let is_middle = |shape: &Shape| shape.drawn == Drawn::InMiddle;
+    let runs = shapes.chunk_by(|left, right| is_middle(left) == is_middle(right));
+    let told = runs.map(|run| {
+        let text = escaped(&run.iter().map(|shape| shape.character).collect::<String>());
+        match is_middle(&run[0]) {
+            true => format!("<tspan class=\"middle\">{text}</tspan>"),
+            false => text,
+        }
+    });
+    told.collect()
 }
 
 /// A text in XML and HTML.

@@ -57,8 +57,8 @@ impl Call<'_> {
             Refusal::Slot => (
                 format!("{file} has no slot {number}"),
                 format!(
-                    "Its slots are 0 to {}; `gelumbrio sheet check {file}` lists them.",
-                    sheet.slots() - 1
+                    "It has {}, numbered from 0; `gelumbrio sheet check {file}` lists them.",
+                    counted(sheet.slots() as u32, "slot")
                 ),
             ),
             Refusal::Caller if clinic == 0 => {
@@ -68,9 +68,13 @@ impl Call<'_> {
                 format!("slot {number} of {file} is not clinic {clinic}'s"),
                 format!("`gelumbrio sheet check {file}` lists whose each slot is."),
             ),
-            Refusal::NoneFree => (
+            Refusal::NoneFree if self.has_slots() => (
                 format!("clinic {clinic} has no free slot in {file}"),
                 format!("`gelumbrio give {file} --clinic {clinic} --slot ..` empties one and frees it."),
+            ),
+            Refusal::NoneFree => (
+                format!("clinic {clinic} has no slot in {file}"),
+                format!("`gelumbrio sheet check {file}` lists whose each slot is."),
             ),
             Refusal::NotInUse => (
                 format!("slot {number} of {file} is not in use"),
@@ -88,7 +92,10 @@ impl Call<'_> {
                 (format!("slot {number} of {file} is damaged: {why}"), mending)
             }
             Refusal::PastEnd { count } => (
-                format!("the edit reaches past the end of slot {number}, which has {count} records"),
+                format!(
+                    "the edit reaches past the end of slot {number}, which has {}",
+                    counted(count, "record")
+                ),
                 format!("A place is 0 to {count}, and what is deleted must be there."),
             ),
             other => (other.to_string(), String::new()),
@@ -96,6 +103,24 @@ impl Call<'_> {
         let advice = Some(advice).filter(|advice| !advice.is_empty()).into_iter().collect();
         Failure::from(Refused { number: Some(refusal.number()), what, spot: None, advice })
     }
+}
+
+impl Call<'_> {
+    /// Whether the clinic that calls has a slot on the sheet.
+    fn has_slots(self) -> bool {
+        let slots = (0..self.sheet.slots()).filter_map(|slot| self.sheet.slot(SlotNumber(slot as u32)));
+        slots.into_iter().any(|slot| slot.clinic() == self.clinic)
+    }
+}
+
+/// So many of something.
+pub fn counted(count: u32, what: &str) -> String {
+    format!("{count} {what}{}", if count == 1 { "" } else { "s" })
+}
+
+/// Why this is no size, and which are.
+pub fn no_size(size: u32) -> (String, String) {
+    (format!("{size} is no size"), "A size is a multiple of 8, from 8 to 4,000.".to_string())
 }
 
 impl<'a> Change<'a> {
@@ -151,12 +176,12 @@ impl<'a> Change<'a> {
     fn own_rules(&self, record: usize) -> (String, String) {
         let Record { size, class, group, ruby_count, .. } = self.records[record];
         let character = self.records[record].character().map_or(String::new(), named);
-        if !size.is_multiple_of(8) || !scratch::SIZES.contains(&size) {
-            (format!("{size} is no size"), "A size is a multiple of 8, from 8 to 4,000.".to_string())
+        if !scratch::is_size(size) {
+            no_size(size)
         } else if group != 0 && !matches!(class, 15 | 16 | 19) {
             (
                 format!(
-                    "{character} may not stand under ruby; kana and ideographs may (it is of class {class})"
+                    "{character} may not stand under ruby: ideographs and kana may, small kana and marks may not"
                 ),
                 "End the ruby element before it, and begin another after it if need be.".to_string(),
             )
@@ -178,11 +203,11 @@ impl<'a> Change<'a> {
         );
         let advice = match scratch::least_measure(indent, &self.records) {
             Some(least) => format!(
-                "The whole text needs lines of {least} units; that is {} characters of size {}.",
-                least.div_ceil(self.size.max(1)),
+                "The whole text needs a line of {least} units, {} of size {}; or make them smaller: --size.",
+                counted(least.div_ceil(self.size.max(1)), "character"),
                 self.size
             ),
-            None => "No line is long enough for it: make the characters smaller.".to_string(),
+            None => "No line is long enough for it: make the characters smaller, --size.".to_string(),
         };
         (what, advice)
     }
@@ -206,7 +231,7 @@ impl<'a> Change<'a> {
 /// A text that is no leaflet.
 pub fn no_leaflet(fault: LeafletFault, leaflet: &Leaflet) -> Failure {
     let length = match fault.found {
-        Found::Tag(tag) => tag.to_string().chars().count(),
+        Found::Tag(tag) => String::from_utf8_lossy(tag.as_bytes()).chars().count(),
         _ => 1,
     };
     Failure::from(Refused {
@@ -228,6 +253,16 @@ fn mending(found: Found) -> String {
         }
         Found::Character('&') => "Write the character itself; character references are not read.".to_string(),
         Found::Character('>') => "〈 and 〉 may stand in a text; < and > stand in tags alone.".to_string(),
+        Found::Character('（' | '［' | '｛') => {
+            "Write '〔' (U+3014); Western brackets are no Japanese ones, and may end a line.".to_string()
+        }
+        Found::Character('）' | '］' | '｝') => {
+            "Write '〕' (U+3015); Western brackets are no Japanese ones, and may start a line.".to_string()
+        }
+        Found::Character('\u{FF66}'..='\u{FF9F}') => "Write full-width kana.".to_string(),
+        Found::Character('\u{3099}' | '\u{309A}') => {
+            "Write the kana and its mark as one character.".to_string()
+        }
         Found::Character(character) => match stands_for(character) {
             Some(instead) => format!("Write {} in its place.", named(instead)),
             None if class_of(character).is_some() => {
@@ -237,8 +272,8 @@ fn mending(found: Found) -> String {
                 .to_string(),
         },
         Found::Tag(_) => {
-            "A ruby element is <ruby>base<rt>ruby</rt></ruby>, with an <rp> on both sides of the <rt> or \
-                          on neither. There are no other tags, and nothing else stands in them."
+            "A ruby element is <ruby>base<rt>ruby</rt></ruby>, with an <rp> on both sides of the <rt> or on \
+             neither. There are no other tags, and nothing else stands in them."
                 .to_string()
         }
         Found::IllFormed(_) => {
@@ -252,15 +287,17 @@ fn mending(found: Found) -> String {
 /// The character of the lists that a look-alike stands for, if it is one.
 fn stands_for(character: char) -> Option<char> {
     let instead = match character {
-        // The full-width forms of ASCII.
-        '\u{FF01}'..='\u{FF5E}' => char::from_u32(u32::from(character) - 0xFEE0)?,
+        // What input methods give for the wave dash; then the full-width forms of ASCII.
+        '\u{FF5E}' => '〜',
+        '\u{FF01}'..='\u{FF5D}' => char::from_u32(u32::from(character) - 0xFEE0)?,
         '\u{FF61}' => '。',
         '\u{FF62}' => '「',
         '\u{FF63}' => '」',
         '\u{FF64}' => '、',
         '\u{FF65}' => '・',
         '\u{2015}' | '\u{2500}' => '—',
-        '\u{2212}' | '\u{2011}' => '-',
+        '\u{2011}' => '‐',
+        '\u{FFE5}' => '¥',
         '\u{FF5F}' => '⦅',
         '\u{FF60}' => '⦆',
         _ => return None,

@@ -12,6 +12,11 @@ pub const CALLER: Clinic = Clinic(1);
 pub const MEASURES: RangeInclusive<u32> = 8..=1_000_000;
 /// Sizes, as document 01 limits them; they are multiples of 8.
 pub const SIZES: RangeInclusive<u32> = 8..=4_000;
+/// Whether records can have this size.
+pub fn is_size(size: u32) -> bool {
+    SIZES.contains(&size) && size.is_multiple_of(8)
+}
+
 /// The most records that a slot can have.
 pub const MOST_RECORDS: usize = 256;
 

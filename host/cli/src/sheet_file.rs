@@ -8,6 +8,7 @@ use std::fs::{self, File, OpenOptions};
 use std::io::{self, Read};
 use std::os::unix::fs::MetadataExt;
 use std::path::{Path, PathBuf};
+use std::time::Duration;
 
 use gelumbrio::{Sheet, MAX_SLOTS, SLOT_WORDS};
 
@@ -27,17 +28,12 @@ pub struct LockedSheet {
 
 /// Writes a new sheet to a file that is not there yet.
 pub fn create(path: &Path, sheet: &Sheet) -> Result<(), Failure> {
-    // The link would say the same, after everything is written.
-    if fs::symlink_metadata(path).is_ok() {
-        let what = format!("{} is there already, and a new sheet has no texts", path.display());
-        return Err(Failure::plain(what).advising("Name another file, or move this one away first."));
-    }
     Staged::new(path, &bytes(sheet))?.put_in_free_place()
 }
 
 /// Reads a sheet.
 pub fn read(path: &Path) -> Result<Sheet, Failure> {
-    let opened = File::open(path).and_then(ordinary);
+    let opened = ordinary(path).and_then(|()| File::open(path));
     let file = opened.map_err(|error| Failure::reading(path.display(), &error))?;
     sheet_in(&file, path)
 }
@@ -51,7 +47,8 @@ impl LockedSheet {
     fn lock(path: &Path) -> io::Result<LockedSheet> {
         let path = fs::canonicalize(path)?;
         loop {
-            let file = OpenOptions::new().read(true).write(true).open(&path).and_then(ordinary)?;
+            ordinary(&path)?;
+            let file = OpenOptions::new().read(true).write(true).open(&path)?;
             file.lock()?;
             let (locked, named) = (file.metadata()?, fs::metadata(&path)?);
             if (locked.dev(), locked.ino()) == (named.dev(), named.ino()) {
@@ -67,15 +64,15 @@ impl LockedSheet {
 
     /// Puts a changed sheet in its place, and lets others go on.
     pub fn replace(self, sheet: &Sheet) -> Result<(), Failure> {
-        files::sweep(&self.path);
+        files::sweep(&self.path, Duration::ZERO);
         Staged::new(&self.path, &bytes(sheet))?.put_in_place()
     }
 }
 
-/// The file, unless it is a folder, a device or the like.
-fn ordinary(file: File) -> io::Result<File> {
-    match file.metadata()?.is_file() {
-        true => Ok(file),
+/// Refuses a folder, a device or a pipe, which one would wait for.
+fn ordinary(path: &Path) -> io::Result<()> {
+    match fs::metadata(path)?.is_file() {
+        true => Ok(()),
         false => Err(io::Error::other("it is no file of words")),
     }
 }

@@ -157,18 +157,15 @@ fn every_character_is_at_its_x_and_shapes_are_moved() {
     assert_eq!(
         texts(&drawn),
         [
-            "\"0\">朝</text>",
-            "\"120\" transform=\"translate(-40 0)\">「</text>",
-            "\"160\">水</text>",
-            "\"240\">」</text>",
-            "\"300\" transform=\"translate(-20 0)\">・</text>",
-            "\"360\" class=\"middle\" transform=\"translate(20 0)\">1</text>",
+            "\"0 120 160 240 300 360\" dx=\"0 -40 0 0 -20 20\">朝「水」・<tspan class=\"middle\">1</tspan></text>",
             "\"400\" textLength=\"40\" lengthAdjust=\"spacingAndGlyphs\">m</text>",
             "\"440\" textLength=\"40\" lengthAdjust=\"spacingAndGlyphs\">W</text>",
             "\"480\" textLength=\"40\" lengthAdjust=\"spacingAndGlyphs\">〜</text>",
         ]
     );
-    // Neighbours of one kind are one element; one past U+FFFF is one of its own.
+    // A circled number is as small as its record is narrow, and stays in the middle of the line.
+    assert!(svg("①", &["--chars", "20"]).contains("<text font-size=\"40\" x=\"0\" y=\"-15\">①</text>"));
+    // One past U+FFFF is an element of its own.
     assert_eq!(texts(&svg("朝昼夜", &["--chars", "20"])), ["\"0 80 160\">朝昼夜</text>"]);
     assert_eq!(
         texts(&svg("朝𠮟夜", &["--chars", "20"])),
@@ -183,8 +180,7 @@ fn ruby_is_at_ruby_places() {
         texts(&drawn),
         [
             "\"0 60 120\" y=\"-74\">とぷく</text>",
-            "\"160 200\" y=\"-74\">くす</text>",
-            "\"240\" y=\"-74\" class=\"middle\" transform=\"translate(20 0)\">\u{FFFD}</text>",
+            "\"160 200 240\" y=\"-74\" dx=\"0 0 20\">くす<tspan class=\"middle\">\u{FFFD}</tspan></text>",
             "\"0 80 180\">頓服薬</text>",
         ]
     );
@@ -195,7 +191,7 @@ fn pictures_name_fonts_and_have_the_edges_of_the_measure() {
     let drawn = svg("朝", &["--chars", "20", "--indent", "3"]);
     assert!(drawn.contains("d=\"M0 80V200M1600 80V200\""), "{drawn}");
     assert!(drawn.contains("'Noto Serif CJK JP'") && drawn.contains("serif;") && !drawn.contains("url("));
-    assert!(drawn.contains("<title>standard input</title>"));
+    assert!(drawn.contains("<title>standard input</title>\n<desc>朝</desc>"));
     assert!(!drawn.contains("class=\"gap\""));
     let marked = svg("朝、昼", &["--chars", "20", "--marks"]);
     assert!(

@@ -3,7 +3,7 @@
 mod common;
 
 use std::fs::{self, Permissions};
-use std::os::unix::fs::{symlink, MetadataExt, PermissionsExt};
+use std::os::unix::fs::{chown, symlink, MetadataExt, PermissionsExt};
 use std::os::unix::process::CommandExt;
 use std::path::Path;
 use std::process::Command;
@@ -29,7 +29,7 @@ fn files_that_cannot_be_read() {
         (&["give", "long", "--clinic", "7", "--slot", "0"], "it has 22593 bytes"),
         (&["edit", "huge", "--at", "0", "--clinic", "7", "--slot", "0"], "it has 734240 bytes"),
         (&["compose", "/dev/zero", "--chars", "9"], "/dev/zero has more than 16 MB"),
-        (&["sheet", "new", "ward", "--slot", "7:22:1"], "ward is there already"),
+        (&["sheet", "new", "ward", "--slot", "7:22:1"], "cannot write ward: File exists"),
         (&["sheet", "new", "no/ward", "--slot", "7:22:1"], "cannot write no/ward: No such file"),
         (&["compose", "/dev/null", "--chars", "9", "--svg", "."], "cannot write .: "),
         (&["compose", "/dev/null", "--chars", "9", "--html", "no/x"], "cannot write no/x: No such file"),
@@ -101,10 +101,15 @@ fn a_folder_that_cannot_be_written_to() {
     assert_eq!((folder.read("ward"), folder.read("x.svg")), (before, b"old".to_vec()));
     assert_eq!(folder.names(), names);
 
-    // A sheet that is closed to the caller is not replaced, though its folder is open.
-    fs::set_permissions(folder.file("ward"), Permissions::from_mode(0o444)).unwrap();
-    let said = as_nobody(&folder, &["give", "ward", "--clinic", "7", "--slot", "0"]).refused();
-    assert!(said.contains("Permission denied"), "{said}");
+    // A file that is closed to the caller is not replaced, though its folder is open.
+    for (name, arguments) in [
+        ("ward", &["give", "ward", "--clinic", "7", "--slot", "0"][..]),
+        ("x.svg", &["compose", "-", "--chars", "9", "--svg", "x.svg"]),
+    ] {
+        fs::set_permissions(folder.file(name), Permissions::from_mode(0o444)).unwrap();
+        let said = as_nobody(&folder, arguments).refused();
+        assert!(said.contains("Permission denied"), "{said}");
+    }
 }
 
 #[test]
@@ -143,10 +148,45 @@ fn links_and_permissions_stay() {
     folder.run_with(&["compose", "-", "--chars", "9", "--svg", "x.svg"], "頭痛").accepted();
     assert_eq!(fs::metadata(folder.file("x.svg")).unwrap().mode() & 0o777, 0o604);
 
-    // No pipe or device is replaced by a file.
+    // Two names for one file are noticed, and a link to nothing is no file.
+    symlink("x.svg", folder.file("y.svg")).unwrap();
+    symlink("nothing", folder.file("z.svg")).unwrap();
+    let draw = |svg, html| {
+        folder.run_with(&["compose", "-", "--chars", "9", "--svg", svg, "--html", html], "頭痛").refused()
+    };
+    assert!(draw("x.svg", "./x.svg").contains("is named for two pictures"));
+    assert!(draw("x.svg", "y.svg").contains("is named for two pictures"));
+    assert!(draw("x.svg", "z.svg").contains("it is a link to a file that is not there"));
+
+    // No pipe or device is replaced by a file, or waited for.
     Command::new("mkfifo").arg(folder.file("pipe")).status().unwrap();
     let said = folder.run_with(&["compose", "-", "--chars", "9", "--svg", "pipe"], "頭痛").refused();
     assert!(said.contains("no file that could be replaced"), "{said}");
+    for arguments in [&["sheet", "check", "pipe"][..], &["take", "pipe", "--clinic", "7"]] {
+        assert!(folder.run(arguments).refused().contains("it is no file of words"));
+    }
+    assert_eq!(folder.names(), ["pipe", "sub", "ward", "x.svg", "y.svg", "z.svg"]);
+}
+
+#[test]
+fn the_owner_stays_where_the_system_lets_it() {
+    let folder = Folder::with_sheet();
+    if fs::metadata(&folder.path).unwrap().uid() != 0 {
+        return;
+    }
+    chown(folder.file("ward"), Some(65_534), Some(65_533)).unwrap();
+    fs::set_permissions(folder.file("ward"), Permissions::from_mode(0o660)).unwrap();
+    folder.run(&["give", "ward", "--clinic", "7", "--slot", "0"]).accepted();
+    let kept = fs::metadata(folder.file("ward")).unwrap();
+    assert_eq!((kept.uid(), kept.gid(), kept.mode() & 0o777), (65_534, 65_533, 0o660));
+
+    // A group that the caller may not give it: the group that it gets may do no more than others.
+    chown(folder.file("ward"), Some(0), Some(0)).unwrap();
+    fs::set_permissions(folder.file("ward"), Permissions::from_mode(0o676)).unwrap();
+    fs::set_permissions(&folder.path, Permissions::from_mode(0o777)).unwrap();
+    as_nobody(&folder, &["take", "ward", "--clinic", "9"]).accepted();
+    let kept = fs::metadata(folder.file("ward")).unwrap();
+    assert_eq!((kept.uid(), kept.gid(), kept.mode() & 0o777), (65_534, 65_534, 0o666));
 }
 
 #[test]

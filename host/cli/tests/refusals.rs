@@ -22,7 +22,14 @@ fn said(number: u32, what: &str, line: usize, column: usize, text: &str, mark: &
 fn a_text_that_is_no_leaflet() {
     let none = |character: &str| format!("{character} may not stand here, as it is in no published list");
     for (leaflet, what, column, text, mark, advice) in [
-        ("1日（朝）", none("'（' (U+FF08)"), 3, "1日（朝）", "   ^^", "Write '(' (U+0028) in its place."),
+        (
+            "1日（朝）",
+            none("'（' (U+FF08)"),
+            3,
+            "1日（朝）",
+            "   ^^",
+            "Write '〔' (U+3014); Western brackets are no Japanese ones, and may end a line.",
+        ),
         (
             "朝 夕",
             none("' ' (U+0020)"),
@@ -75,6 +82,17 @@ fn a_text_that_is_no_leaflet() {
     ] {
         assert_eq!(composed(leaflet, "9"), said(17, &what, 1, column, text, mark, advice), "{leaflet}");
     }
+    for (character, advice) in [
+        ("～", "Write '〜' (U+301C) in its place."),
+        ("￥", "Write '¥' (U+00A5) in its place."),
+        ("）", "Write '〕' (U+3015); Western brackets"),
+        ("ｱ", "Write full-width kana."),
+        ("\u{3099}", "Write the kana and its mark as one character."),
+        ("🍵", "Write it with other characters"),
+    ] {
+        let said = composed(format!("か{character}"), "9");
+        assert!(said.contains(&format!("\n  = {advice}")), "{said}");
+    }
     let tags = composed("朝<br>夕", "9");
     assert!(tags.contains("<br> is none of the tags") && tags.contains("\n   |   ^^^^\n"), "{tags}");
     let shift_jis = composed(b"1\x93\xFA", "9");
@@ -82,14 +100,19 @@ fn a_text_that_is_no_leaflet() {
         shift_jis.contains("the bytes 93 are no UTF-8") && shift_jis.contains("Shift_JIS"),
         "{shift_jis}"
     );
-    let escape = composed("朝\u{1B}[2J\u{202E}", "9");
-    assert!(!escape.contains(['\u{1B}', '\u{202E}']), "{escape}");
+    for text in ["朝\u{1B}[2J\u{202E}", "朝<\u{202E}b\u{7}>"] {
+        let said = composed(text, "9");
+        assert!(!said.contains(['\u{1B}', '\u{202E}', '\u{7}']), "{said}");
+    }
+    let tag = composed("朝<\u{202E}b\u{7}>", "9");
+    assert!(tag.contains("\n   |   ^^^^^\n"), "{tag}");
 }
 
 #[test]
 fn records_that_cannot_be_set_by_way_of_their_characters() {
     let under = composed("朝<ruby>日々<rt>ひび</rt></ruby>", "9");
-    let what = "'々' (U+3005) may not stand under ruby; kana and ideographs may (it is of class 9)";
+    let what =
+        "'々' (U+3005) may not stand under ruby: ideographs and kana may, small kana and marks may not";
     let text = "朝<ruby>日々<rt>ひび</rt></ruby>";
     let advice = "End the ruby element before it, and begin another after it if need be.";
     assert_eq!(under, said(8, what, 1, 9, text, "          ^^", advice));
@@ -110,7 +133,8 @@ fn records_that_cannot_be_set_by_way_of_their_characters() {
 
     let wide = composed("一日1234567890mgを", "4");
     let what = "from here to where a line may next end, the text is wider than 320, a line";
-    let advice = "The whole text needs lines of 480 units; that is 6 characters of size 80.";
+    let advice =
+        "The whole text needs a line of 480 units, 6 characters of size 80; or make them smaller: --size.";
     assert_eq!(wide, said(10, what, 1, 3, "一日1234567890mgを", "    ^", advice));
     // As it says, so it is.
     let folder = Folder::new();
@@ -123,8 +147,12 @@ fn records_that_cannot_be_set_by_way_of_their_characters() {
         "{many}"
     );
     assert!(many.contains("line 1, column 257\n"), "{many}");
-    let size = folder.run_with(&["compose", "-", "--chars", "9", "--size", "81"], "漢").refused();
-    assert!(size.contains("refused with 8: 81 is no size"), "{size}");
+    for size in ["0", "81", "4008"] {
+        let said = folder.run_with(&["compose", "-", "--chars", "9", "--size", size], "漢").refused();
+        assert!(said.contains(&format!("refused with 8: {size} is no size")), "{said}");
+        let said = folder.run(&["sheet", "new", "ward", "--slot", "7:22:1", "--size", size]).refused();
+        assert!(said.contains(&format!("refused with 8: {size} is no size")), "{said}");
+    }
 }
 
 #[test]
@@ -134,7 +162,7 @@ fn lines_that_cannot_be_set() {
         (&["--chars", "0"][..], "refused with 11: a line of 0 units cannot be set"),
         (&["--measure", "7"], "refused with 11: a line of 7 units cannot be set"),
         (&["--measure", "1000001"], "refused with 11: a line of 1000001 units cannot be set"),
-        (&["--chars", "4294967295"], "refused with 11: a line of 4294967295 units cannot be set"),
+        (&["--chars", "4294967295"], "refused with 11: so long a line cannot be set"),
         (&["--chars", "2", "--indent", "2"], "refused with 11: an indent of 160 units leaves nothing"),
     ] {
         let said = folder.run_with(&[&["compose", "-"], options].concat(), "漢").refused();
@@ -159,6 +187,7 @@ fn calls_on_a_sheet() {
     let before = folder.read("ward");
     for (arguments, number, what) in [
         (&["take", "ward", "--clinic", "7"][..], 13, "clinic 7 has no free slot in ward"),
+        (&["take", "ward", "--clinic", "8"], 13, "clinic 8 has no slot in ward"),
         (&["take", "ward", "--clinic", "0"], 3, "clinic 0 is nobody"),
         (&["give", "ward", "--clinic", "7", "--slot", "2"], 2, "ward has no slot 2"),
         (&["give", "ward", "--clinic", "7", "--slot", "1"], 3, "slot 1 of ward is not clinic 7's"),

@@ -42,7 +42,7 @@ fn every_command_does_what_the_call_does() {
     let slot = ["--clinic", "7", "--slot", "0"];
     let said = folder.run(&[&["import", "ward", "dose.html"], &slot[..]].concat()).accepted();
     let edited = sheet.import(Clinic(7), SLOT, 80, DOSE).unwrap();
-    assert_eq!(said, format!("{} lines, {} of them composed anew\n", edited.lines, edited.redone));
+    assert_eq!((said.as_str(), edited.lines, edited.redone), ("1 line, 1 composed anew\n", 1, 1));
     assert_eq!(folder.sheet("ward"), sheet);
 
     // 朝食 in place of 水で, with ruby: its group must not be one with the other.
@@ -137,12 +137,12 @@ fn a_check_tells_what_each_slot_is() {
                 slot 2: clinic 0, measure 1760, indent 0: nobody's\n";
     assert_eq!(
         check().accepted(),
-        format!("slot 0: clinic 7, measure 1760, indent 80: in use, 15 records, 1 lines\n{free}")
+        format!("slot 0: clinic 7, measure 1760, indent 80: in use, 15 records, 1 line\n{free}")
     );
 
     // From before there was an in-use word: its text is there once it is taken.
     with_word(&folder, 5, 0);
-    assert!(check().accepted().contains("not in use, with a text of 15 records"));
+    assert!(check().accepted().contains("not in use, but not empty: once taken it has 15 records"));
     folder.run(&["take", "ward", "--clinic", "7"]).accepted();
 
     // Composed by another rule.
@@ -157,6 +157,7 @@ fn a_check_tells_what_each_slot_is() {
     assert_eq!(folder.read("ward"), stored);
 
     for (at, word, why) in [
+        (0, 0, "it is in use by nobody"),
         (0, 65_536, "its clinic is 65536"),
         (1, 7, "its measure is 7"),
         (2, 1760, "its indent is 1760, and its measure 1760"),

@@ -93,7 +93,9 @@ fn wrong_usage_has_a_status_of_its_own() {
         (&["compose", "a", "--chars", "4294967296"], "is no whole number"),
         (&["compose", "a", "--chars", "2", "--indent", "1.5"], "--indent 1.5 is no length"),
         (&["compose", "a", "--chars", "2", "--svg", "-"], "--svg needs a file's name"),
-        (&["compose", "a", "--chars", "2", "--svg", "b", "--html", "b"], "name one file"),
+        (&["compose", "a", "--chars", "2", "--svg", "--marks"], "--svg needs a value"),
+        (&["compose", "a", "--chars", "2", "--svg="], "--svg needs a value"),
+        (&["help", "mend"], "there is no command mend"),
         (&["compose", "a", "--chars", "2", "--marks=1"], "--marks takes no value"),
         (&["compose", "a", "--chars", "2", "--colour"], "there is no option --colour"),
         (&["compose", "a", "-c", "2"], "there is no option -c"),
@@ -145,6 +147,13 @@ fn nobody_need_read_all_that_is_said() {
     let said = full.stdout(std::fs::File::create("/dev/full").unwrap()).output().unwrap();
     assert_eq!(said.status.code(), Some(1));
     assert!(String::from_utf8_lossy(&said.stderr).contains("cannot write standard output: No space left"));
+
+    // What is done is done, and is said.
+    let folder = common::Folder::with_sheet();
+    let mut full = command(&folder.path, &["take", "ward", "--clinic", "9"]);
+    let said = full.stdout(std::fs::File::create("/dev/full").unwrap()).output().unwrap();
+    assert_eq!(said.status.code(), Some(1));
+    assert!(String::from_utf8_lossy(&said.stderr).contains("The sheet is changed all the same: slot 1\n"));
 
     let head = format!("{PROGRAM} compose examples/dose.html --chars 22 --json | head -n 1");
     let said = Command::new("sh").args(["-c", &head]).current_dir(root()).output().unwrap();

@@ -8,7 +8,7 @@ use crate::arguments::{Arguments, Grammar};
 use crate::failure::Failure;
 use crate::leaflet::{Leaflet, Reading};
 use crate::paragraph::groups_of;
-use crate::refusals::{no_leaflet, of_change, Call, Change};
+use crate::refusals::{counted, no_leaflet, of_change, Call, Change};
 use crate::scratch;
 use crate::sheet_file::LockedSheet;
 
@@ -52,7 +52,7 @@ pub fn import(mut arguments: Arguments) -> Result<Done, Failure> {
         refusal => of_change(call, &Change::import(&leaflet, size), refusal),
     })?;
     locked.replace(&sheet)?;
-    Ok(Done::saying(report(edited)))
+    Ok(Done::changing(report(edited)))
 }
 
 /// Deletes records of a slot and puts in what a leaflet reads as.
@@ -74,7 +74,6 @@ pub fn edit(mut arguments: Arguments) -> Result<Done, Failure> {
     let reading = leaflet.as_ref().map_or_else(Reading::default, |leaflet| Reading::of(leaflet.text()));
     let size = size.unwrap_or_else(|| size_at(&stored, at as usize));
     let inserted = scratch::records(&reading, size, &stored);
-
     let stretch = Stretch { at: at as usize, deleted: deleted as usize };
 
     let mut sheet = old.clone();
@@ -86,7 +85,7 @@ pub fn edit(mut arguments: Arguments) -> Result<Done, Failure> {
     })?;
     locked.replace(&sheet)?;
     let notes = parted(&stored, &stretch, !inserted.is_empty());
-    Ok(Done { said: report(edited), notes })
+    Ok(Done { notes, ..Done::changing(report(edited)) })
 }
 
 /// The size of the text around a place: of the record before it, or of the first.
@@ -124,5 +123,5 @@ fn parted(stored: &[Record], stretch: &Stretch, inserts: bool) -> Vec<String> {
 }
 
 fn report(edited: Edited) -> String {
-    format!("{} lines, {} of them composed anew\n", edited.lines, edited.redone)
+    format!("{}, {} composed anew\n", counted(edited.lines, "line"), edited.redone)
 }

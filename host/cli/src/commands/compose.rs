@@ -10,7 +10,7 @@ use crate::arguments::{Arguments, Grammar, Length};
 use crate::failure::{Failure, Refused};
 use crate::leaflet::{Leaflet, Reading};
 use crate::paragraph::Paragraph;
-use crate::refusals::{no_leaflet, Change};
+use crate::refusals::{no_leaflet, no_size, Change};
 use crate::scratch::{self, CALLER};
 
 pub const GRAMMAR: Grammar = Grammar {
@@ -28,7 +28,7 @@ pub const USUAL_SIZE: u32 = 80;
 /// Composes a leaflet in a slot of its own, and shows it.
 pub fn run(mut arguments: Arguments) -> Result<Done, Failure> {
     let forms = Forms::of(&arguments)?;
-    let size = arguments.number("size")?.unwrap_or(USUAL_SIZE);
+    let size = size(&arguments)?;
     let (measure, indent) = line(&arguments, size)?;
     let name = arguments.operand().unwrap_or_default();
     let leaflet = Leaflet::read(&name)?;
@@ -57,6 +57,18 @@ fn import(
     }
 }
 
+/// The size of characters, in which lengths are counted too.
+pub fn size(arguments: &Arguments) -> Result<u32, Failure> {
+    let size = arguments.number("size")?.unwrap_or(USUAL_SIZE);
+    match scratch::is_size(size) {
+        true => Ok(size),
+        false => {
+            let (what, advice) = no_size(size);
+            Err(Failure::from(Refused { number: Some(8), what, spot: None, advice: vec![advice] }))
+        }
+    }
+}
+
 /// Measure and indent in units.
 fn line(arguments: &Arguments, size: u32) -> Result<(u32, u32), Failure> {
     let (measure, alone) = match (arguments.number("chars")?, arguments.length("measure", Length::Units)?) {
@@ -71,10 +83,13 @@ fn line(arguments: &Arguments, size: u32) -> Result<(u32, u32), Failure> {
     Ok((measure.units(size), indent.units(size)))
 }
 
+const MEASURE: &str = "A measure is 8 to 1,000,000 units.";
+
 /// A measure or an indent that is none.
 pub fn no_line(measure: u32, indent: u32) -> Failure {
     let (what, advice) = match scratch::MEASURES.contains(&measure) {
-        false => (format!("a line of {measure} units cannot be set"), "A measure is 8 to 1,000,000 units."),
+        false if measure == u32::MAX => ("so long a line cannot be set".to_string(), MEASURE),
+        false => (format!("a line of {measure} units cannot be set"), MEASURE),
         true => (
             format!("an indent of {indent} units leaves nothing of a line of {measure}"),
             "An indent is shorter than the line. A number with u is in units: 80u.",

@@ -19,11 +19,17 @@ pub struct Done {
     pub said: String,
     /// What a person should know besides; it goes to standard error.
     pub notes: Vec<String>,
+    /// Whether a sheet is another one now.
+    pub is_change: bool,
 }
 
 impl Done {
     fn saying(said: String) -> Done {
-        Done { said, notes: Vec::new() }
+        Done { said, ..Done::default() }
+    }
+
+    fn changing(said: String) -> Done {
+        Done { said, is_change: true, ..Done::default() }
     }
 }
 
@@ -53,8 +59,11 @@ pub fn run(given: &[OsString]) -> Result<Done, Failure> {
         return Ok(Done::saying(help::whole()));
     }
     if first == "help" {
-        let of = named(&given[1..]).map_or_else(help::whole, |(grammar, _, _)| help::of(grammar.command));
-        return Ok(Done::saying(of));
+        return match (named(&given[1..]), given.get(1)) {
+            (Some((grammar, _, _)), _) => Ok(Done::saying(help::of(grammar.command))),
+            (None, None) => Ok(Done::saying(help::whole())),
+            (None, Some(unknown)) => Err(no_command(unknown)),
+        };
     }
     let Some((grammar, run, rest)) = named(given) else {
         return match first == "sheet" {
@@ -62,7 +71,7 @@ pub fn run(given: &[OsString]) -> Result<Done, Failure> {
                 Ok(Done::saying(help::of("sheet new") + "\n" + &help::of("sheet check")))
             }
             true => Err(Failure::usage("sheet", "sheet new makes a sheet, sheet check looks at one")),
-            false => Err(Failure::usage("", format!("there is no command {}", first.display()))),
+            false => Err(no_command(first)),
         };
     };
     let options = rest.iter().take_while(|argument| *argument != "--");
@@ -70,6 +79,10 @@ pub fn run(given: &[OsString]) -> Result<Done, Failure> {
         return Ok(Done::saying(help::of(grammar.command)));
     }
     run(Arguments::parse(grammar, rest)?)
+}
+
+fn no_command(named: &OsStr) -> Failure {
+    Failure::usage("", format!("there is no command {}", named.display()))
 }
 
 fn is_help(argument: &OsStr) -> bool {

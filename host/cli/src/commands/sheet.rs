@@ -4,11 +4,12 @@ use std::ffi::OsStr;
 
 use gelumbrio::{Clinic, Refusal, Sheet, SlotNumber, MAX_SLOTS};
 
-use super::compose::{no_line, USUAL_SIZE};
+use super::compose::{no_line, size};
 use super::Done;
 use crate::arguments::{number, Arguments, Grammar, Length};
 use crate::check::{state, State};
 use crate::failure::{Failure, Refused};
+use crate::refusals::counted;
 use crate::sheet_file;
 
 pub const NEW: Grammar = Grammar {
@@ -42,7 +43,7 @@ impl Setting {
 
 /// Makes a sheet in a new file.
 pub fn new(mut arguments: Arguments) -> Result<Done, Failure> {
-    let size = arguments.number("size")?.unwrap_or(USUAL_SIZE);
+    let size = size(&arguments)?;
     let mut settings = Vec::new();
     for text in arguments.all("slot") {
         settings.push(Setting::parse(text, size).ok_or_else(|| {
@@ -59,7 +60,7 @@ pub fn new(mut arguments: Arguments) -> Result<Done, Failure> {
     let file = arguments.file();
     sheet_file::create(&file, &sheet)?;
     let listed = (0..sheet.slots()).map(|slot| listed(&sheet, slot, "free"));
-    Ok(Done::saying(listed.collect()))
+    Ok(Done::changing(listed.collect()))
 }
 
 fn set_up(settings: &[Setting]) -> Result<Sheet, Failure> {
@@ -115,11 +116,16 @@ pub fn check(mut arguments: Arguments) -> Result<Done, Failure> {
         let what = match state(slot) {
             State::Unassigned => "nobody's".to_string(),
             State::Free => "free".to_string(),
-            State::InUse => format!("in use, {} records, {} lines", slot.record_count(), slot.line_count()),
-            State::Waiting => format!(
-                "not in use, with a text of {} records from before slots were taken",
-                slot.record_count()
-            ),
+            State::InUse => {
+                let (records, lines) = (slot.record_count(), slot.line_count());
+                format!("in use, {}, {}", counted(records, "record"), counted(lines, "line"))
+            }
+            State::Waiting => {
+                format!(
+                    "not in use, but not empty: once taken it has {}",
+                    counted(slot.record_count(), "record")
+                )
+            }
             State::Stale => {
                 advice.push(format!(
                     "`gelumbrio edit {} --clinic {} --slot {number} --at 0` composes slot {number} anew.",
@@ -129,7 +135,7 @@ pub fn check(mut arguments: Arguments) -> Result<Done, Failure> {
                 "its lines are not those that the rules give its records".to_string()
             }
             State::Damaged(why) => {
-                advice.push(format!("Slot {number} is refused with 4 until a new sheet is set up."));
+                advice.push(format!("Only a new sheet mends slot {number}, or an older copy of the file."));
                 format!("damaged: {why}")
             }
         };

@@ -42,14 +42,11 @@ impl Forms {
             }
         }
         let (svg, html) = (arguments.path("svg"), arguments.path("html"));
-        if svg.is_some() && svg == html {
-            return Err(arguments.wrong("--svg and --html name one file"));
-        }
         Ok(Forms { svg, html, json: arguments.has("json"), marks: arguments.has("marks") })
     }
 
-    /// Writes the files that are wanted, and says the rest. Either all files are put in place or, where one cannot be
-    /// written, none is. No file is put in the place of one that was read.
+    /// Writes the files that are wanted, and says the rest. All are written before the first is put in place, and none
+    /// is put in the place of one that was read.
     pub fn show(&self, paragraph: &Paragraph, title: &str, read: &[&Path]) -> Result<Done, Failure> {
         let mut staged = Vec::new();
         for (path, picture) in [(&self.svg, picture::svg as Draw), (&self.html, picture::html as Draw)] {
@@ -58,7 +55,11 @@ impl Forms {
                 let what = format!("{} was read, and would be lost", path.display());
                 return Err(Failure::plain(what).advising("Name another file for the picture."));
             }
-            staged.push(Staged::new(path, picture(paragraph, title, self.marks).as_bytes())?);
+            let written = Staged::new(path, picture(paragraph, title, self.marks).as_bytes())?;
+            if staged.iter().any(|other: &Staged| other.target() == written.target()) {
+                return Err(Failure::plain(format!("{} is named for two pictures", path.display())));
+            }
+            staged.push(written);
         }
         staged.into_iter().try_for_each(Staged::put_in_place)?;
         Ok(Done::saying(match self.json {
@@ -96,8 +97,7 @@ pub fn run(mut arguments: Arguments) -> Result<Done, Failure> {
     let paragraph = paragraph.map_err(|refusal| call.refused(refusal))?;
     let title = format!("{}, slot {}", file.display(), slot.0);
     let read: Vec<&Path> = [Some(file.as_path()), named.as_deref()].into_iter().flatten().collect();
-    let Done { said, .. } = forms.show(&paragraph, &title, &read)?;
-    Ok(Done { said, notes })
+    Ok(Done { notes, ..forms.show(&paragraph, &title, &read)? })
 }
 
 /// The sheet with the slot as the rules compose its records, and a note where it was not so.

@@ -30,7 +30,7 @@ pub fn take(mut arguments: Arguments) -> Result<Done, Failure> {
     let call = Call { file: &file, sheet: &old, clinic, slot: SlotNumber(0) };
     let slot = sheet.take(clinic).map_err(|refusal| call.refused(refusal))?;
     locked.replace(&sheet)?;
-    Ok(Done::saying(format!("slot {}\n", slot.0)))
+    Ok(Done::changing(format!("slot {}\n", slot.0)))
 }
 
 /// Gives a slot back.
@@ -43,5 +43,5 @@ pub fn give(mut arguments: Arguments) -> Result<Done, Failure> {
     let call = Call { file: &file, sheet: &old, clinic, slot };
     sheet.give_back(clinic, slot).map_err(|refusal| call.refused(refusal))?;
     locked.replace(&sheet)?;
-    Ok(Done::saying(format!("slot {} is free\n", slot.0)))
+    Ok(Done::changing(format!("slot {} is free\n", slot.0)))
 }
