@@ -16,7 +16,7 @@ use crate::failure::Failure;
 /// How the name of a file ends that is not in place yet.
 const ENDING: &str = ".gelumbrio-new";
 
-/// How long what a killed program has left beside a picture lies there at least. No program needs as long to write one.
+/// How long what a killed program has left beside a picture stays there. No program needs as long to write one.
 const AN_HOUR: Duration = Duration::from_secs(3_600);
 
 /// A file that is written and not yet in place. It is removed again unless it is put there.
@@ -141,8 +141,8 @@ fn target(path: &Path) -> io::Result<PathBuf> {
     }
 }
 
-/// Removes what killed programs have left beside a file at least so long ago, as far as that can be done. What may be a
-/// running program's must be younger.
+/// Removes what killed programs have left beside a file at least so long ago, as far as that can be done. What may be
+/// a running program's must be younger.
 pub fn sweep(target: &Path, age: Duration) {
     let (Ok(beginning), Ok(entries)) = (beginning(target), fs::read_dir(folder(target))) else { return };
     for entry in entries.flatten() {

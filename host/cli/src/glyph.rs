@@ -83,8 +83,8 @@ fn drawn(record: &Record) -> Drawn {
     }
 }
 
-/// Whether a character's shape takes no more than about half of its square, in the serif faces in use. Where it takes a
-/// little more, a number stays one element.
+/// Whether a character's shape takes no more than about half of its square, in the serif faces in use. Figures take a
+/// little more in some: so a number stays one element.
 fn is_narrow(character: char) -> bool {
     match character {
         '%' | '&' | '@' | 'A'..='H' | 'K'..='Z' => false,

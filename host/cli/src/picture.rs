@@ -1,7 +1,8 @@
 //! A paragraph as a picture in SVG, in the sheet's own units.
 //!
 //! The x of every character is the one that the sheet has; where its shape must stand elsewhere, a dx says how far.
-//! A line is one element, so that a text can be found and copied, but for characters that are made narrower or smaller.
+//! A line is one element, so that a text can be found and copied, but for characters that are made narrower or
+//! smaller.
 
 use std::fmt::Write;
 
@@ -98,7 +99,8 @@ fn style(marks: bool) -> String {
                   .amount,.number{text-anchor:middle}";
     format!(
         "<style>text{{font-family:{FONTS};fill:#000;font-kerning:none}}.middle{{text-anchor:middle}}\
-         .paper{{fill:#fff}}.edge{{stroke:#6aa9d8;stroke-width:.7;vector-effect:non-scaling-stroke}}.unknown{{fill:none;stroke:#999}}{}</style>",
+         .paper{{fill:#fff}}.edge{{stroke:#6aa9d8;stroke-width:.7;vector-effect:non-scaling-stroke}}\
+         .unknown{{fill:none;stroke:#999}}{}</style>",
         if marks { marked } else { "" }
     )
 }
