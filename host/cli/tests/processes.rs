@@ -6,7 +6,7 @@ use std::process::Stdio;
 use std::thread;
 use std::time::Instant;
 
-use common::{command, text, Folder};
+use common::{command, text, Folder, Random};
 use gelumbrio::{Clinic, Sheet, SlotNumber};
 
 const PROCESSES: u32 = 8;
@@ -92,14 +92,6 @@ fn only_one_of_two_programs_makes_a_sheet() {
     }
 }
 
-/// A number from a row that is the same each time (SplitMix64).
-fn random(state: &mut u64) -> u64 {
-    *state = state.wrapping_add(0x9E37_79B9_7F4A_7C15);
-    let mixed = (*state ^ (*state >> 30)).wrapping_mul(0xBF58_476D_1CE4_E5B9);
-    let mixed = (mixed ^ (mixed >> 27)).wrapping_mul(0x94D0_49BB_1331_11EB);
-    mixed ^ (mixed >> 31)
-}
-
 #[test]
 fn a_killed_program_leaves_the_old_sheet_or_the_new_one() {
     let folder = Folder::new();
@@ -118,14 +110,13 @@ fn a_killed_program_leaves_the_old_sheet_or_the_new_one() {
     (0..10).for_each(|number| drop(import(["a", "b"][number % 2]).wait()));
     let usual = started.elapsed() / 10;
 
-    let (mut state, mut done) = (1, 0);
+    let (mut random, mut done) = (Random(1), 0);
     let mut held = folder.sheet("ward");
     for _ in 0..KILLS {
         let other = usize::from(held == sheets[0]);
         let mut running = import(["a", "b"][other]);
         // From before it has begun until it must be done.
-        let part = random(&mut state) % 1_250;
-        thread::sleep(usual * part as u32 / 1_000);
+        thread::sleep(usual * random.below(1_250) as u32 / 1_000);
         let _ = running.kill();
         running.wait().expect("it ends");
         let left = folder.sheet("ward");
