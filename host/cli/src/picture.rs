@@ -11,6 +11,7 @@ use gelumbrio::Line;
 use crate::characters::printable;
 use crate::glyph::{Drawn, Shape};
 use crate::paragraph::{Group, Paragraph};
+use crate::scratch::USUAL_SIZE;
 use crate::terminal::kind;
 
 /// Serif faces for Japanese, those of free systems first.
@@ -18,8 +19,6 @@ const FONTS: &str = "'Noto Serif CJK JP', 'Noto Serif JP', 'Source Han Serif JP'
                      'Yu Mincho', YuMincho, 'BIZ UDMincho', IPAexMincho, 'MS Mincho', serif";
 /// How large a character is on a screen, in pixels.
 const PIXELS: f64 = 24.0;
-/// The size that is meant where there is no character.
-const USUAL_SIZE: u32 = 80;
 
 /// Where things stand in the picture, in units.
 struct Layout {
@@ -63,8 +62,7 @@ pub fn svg(paragraph: &Paragraph, title: &str, marks: bool) -> String {
     let mut put = |text: String| writeln!(svg, "{text}").expect("a string takes it");
     put(format!(
         "<svg xmlns=\"http://www.w3.org/2000/svg\" xml:lang=\"ja\" lang=\"ja\" xml:space=\"preserve\" \
-         width=\"{:.0}\" height=\"{:.0}\" \
-         viewBox=\"-{} 0 {width} {height}\">",
+         width=\"{:.0}\" height=\"{:.0}\" viewBox=\"-{} 0 {width} {height}\">",
         width as f64 * scale,
         height as f64 * scale,
         layout.left,

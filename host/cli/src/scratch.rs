@@ -12,13 +12,15 @@ pub const CALLER: Clinic = Clinic(1);
 pub const MEASURES: RangeInclusive<u32> = 8..=1_000_000;
 /// Sizes, as document 01 limits them; they are multiples of 8.
 pub const SIZES: RangeInclusive<u32> = 8..=4_000;
+/// The size of characters where none is named.
+pub const USUAL_SIZE: u32 = 80;
+/// The most records that a slot can have.
+pub const MOST_RECORDS: usize = 256;
+
 /// Whether records can have this size.
 pub fn is_size(size: u32) -> bool {
     SIZES.contains(&size) && size.is_multiple_of(8)
 }
-
-/// The most records that a slot can have.
-pub const MOST_RECORDS: usize = 256;
 
 /// A sheet of one slot, taken by [`CALLER`].
 pub fn fresh(measure: u32, indent: u32) -> Result<(Sheet, SlotNumber), Refusal> {

@@ -2,14 +2,13 @@
 
 use gelumbrio::{Edited, Record, Refusal};
 
-use super::compose::USUAL_SIZE;
 use super::Done;
 use crate::arguments::{Arguments, Grammar};
 use crate::failure::Failure;
 use crate::leaflet::{Leaflet, Reading};
 use crate::paragraph::groups_of;
 use crate::refusals::{counted, no_leaflet, of_change, Call, Change};
-use crate::scratch;
+use crate::scratch::{self, USUAL_SIZE};
 use crate::sheet_file::LockedSheet;
 
 pub const IMPORT: Grammar = Grammar {

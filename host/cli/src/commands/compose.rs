@@ -11,7 +11,7 @@ use crate::failure::{Failure, Refused};
 use crate::leaflet::{Leaflet, Reading};
 use crate::paragraph::Paragraph;
 use crate::refusals::{no_leaflet, no_size, Change};
-use crate::scratch::{self, CALLER};
+use crate::scratch::{self, CALLER, USUAL_SIZE};
 
 pub const GRAMMAR: Grammar = Grammar {
     command: "compose",
@@ -21,9 +21,6 @@ pub const GRAMMAR: Grammar = Grammar {
     operands: &["LEAFLET"],
     optional: 0,
 };
-
-/// The size of characters where none is named.
-pub const USUAL_SIZE: u32 = 80;
 
 /// Composes a leaflet in a slot of its own, and shows it.
 pub fn run(mut arguments: Arguments) -> Result<Done, Failure> {
