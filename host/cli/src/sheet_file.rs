@@ -45,16 +45,23 @@ impl LockedSheet {
     }
 
     fn lock(path: &Path) -> io::Result<LockedSheet> {
-        let path = fs::canonicalize(path)?;
+        let mut path = fs::canonicalize(path)?;
         loop {
             ordinary(&path)?;
             let file = OpenOptions::new().read(true).write(true).open(&path)?;
             file.lock()?;
-            let (locked, named) = (file.metadata()?, fs::metadata(&path)?);
-            if (locked.dev(), locked.ino()) == (named.dev(), named.ino()) {
-                return Ok(LockedSheet { path, file });
+            let locked = LockedSheet { path, file };
+            if locked.is_named()? {
+                return Ok(locked);
             }
+            path = locked.path;
         }
+    }
+
+    /// Whether the locked file still is the one that has the sheet's name.
+    fn is_named(&self) -> io::Result<bool> {
+        let (locked, named) = (self.file.metadata()?, fs::metadata(&self.path)?);
+        Ok((locked.dev(), locked.ino()) == (named.dev(), named.ino()))
     }
 
     /// The sheet as it is.
@@ -65,7 +72,13 @@ impl LockedSheet {
     /// Puts a changed sheet in its place, and lets others go on.
     pub fn replace(self, sheet: &Sheet) -> Result<(), Failure> {
         files::sweep(&self.path, Duration::ZERO);
-        Staged::new(&self.path, &bytes(sheet))?.put_in_place()
+        let staged = Staged::new(&self.path, &bytes(sheet))?;
+        // Programs keep to the lock, but people move files.
+        match self.is_named() {
+            Ok(true) => staged.put_in_place(),
+            _ => Err(Failure::plain(format!("{} was moved away meanwhile", self.path.display()))
+                .advising("Nothing is changed: try again.")),
+        }
     }
 }
 
