@@ -42,8 +42,16 @@ const COMBINING: [(u32, u32); 9] = [
 ];
 
 /// Characters without a shape that turn, hide or part what stands around them.
-const FORMATTING: [(u32, u32); 5] =
-    [(0x061C, 0x061C), (0x200B, 0x200F), (0x2028, 0x202E), (0x2060, 0x206F), (0xFEFF, 0xFEFF)];
+const FORMATTING: [(u32, u32); 8] = [
+    (0x061C, 0x061C),
+    (0x180E, 0x180E),
+    (0x200B, 0x200F),
+    (0x2028, 0x202E),
+    (0x2060, 0x206F),
+    (0xFEFF, 0xFEFF),
+    (0xFFF9, 0xFFFB),
+    (0xE0000, 0xE007F),
+];
 
 fn is_in(ranges: &[(u32, u32)], character: char) -> bool {
     let code = u32::from(character);
@@ -100,7 +108,7 @@ mod tests {
     #[test]
     fn what_steers_a_terminal_is_not_shown() {
         for hidden in
-            "\u{1B}\u{7}\u{0}\n\t\u{7F}\u{9B}\u{202E}\u{2066}\u{200B}\u{FEFF}\u{FFFE}\u{FFFF}".chars()
+            "\u{1B}\u{7}\u{0}\n\t\u{7F}\u{9B}\u{202E}\u{2066}\u{200B}\u{FEFF}\u{FFF9}\u{FFFE}\u{FFFF}\u{E0041}".chars()
         {
             assert_eq!(printable(hidden), REPLACEMENT, "{}", named(hidden));
         }

@@ -22,10 +22,15 @@ pub enum State {
     Damaged(String),
 }
 
+/// The highest number of a clinic.
+pub const MOST_CLINICS: u32 = 65_535;
+/// What mends a damaged slot.
+pub const MENDING: &str = "Only a new sheet mends it, or an older copy of the file.";
+
 /// Looks at a slot of a sheet.
 pub fn state(slot: Slot<'_>) -> State {
     let Clinic(clinic) = slot.clinic();
-    if clinic > 65_535 {
+    if clinic > MOST_CLINICS {
         return State::Damaged(format!("its clinic is {clinic}, and clinics are 0 to 65,535"));
     }
     if let Some(why) = damage(slot) {

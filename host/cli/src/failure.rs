@@ -6,7 +6,7 @@ use std::io;
 use crate::characters::{columns, printable};
 use crate::style::Style;
 
-/// Why the program has done nothing.
+/// Why the program does not end well.
 #[derive(Debug)]
 pub enum Failure {
     /// The arguments are wrong.
@@ -60,6 +60,19 @@ impl Failure {
         Failure::from(Refused { what: what.into(), ..Refused::default() })
     }
 
+    /// Something refused with this number.
+    pub fn numbered(number: u32, what: impl Into<String>) -> Failure {
+        Failure::from(Refused { number: Some(number), what: what.into(), ..Refused::default() })
+    }
+
+    /// With the place where it is.
+    pub fn at(mut self, spot: Spot) -> Failure {
+        if let Failure::Refused(refused) = &mut self {
+            refused.spot = Some(spot);
+        }
+        self
+    }
+
     /// With a sentence more of what to do.
     pub fn advising(mut self, advice: impl Into<String>) -> Failure {
         if let Failure::Refused(refused) = &mut self {
@@ -105,10 +118,8 @@ impl Failure {
         match self {
             Failure::Usage { what, command } => {
                 let help = format!("gelumbrio {command}{}--help", if command.is_empty() { "" } else { " " });
-                format!(
-                    "gelumbrio: {}: {what}\n  `{help}` shows how it is done.\n",
-                    style.wrong("wrong usage")
-                )
+                let (head, what) = (style.wrong("wrong usage"), shown(what));
+                format!("gelumbrio: {head}: {what}\n  `{help}` shows how it is done.\n")
             }
             Failure::Refused(refused) => refused.told(style),
         }
@@ -163,15 +174,19 @@ impl Spot {
     /// The characters of a line that are shown: the place is among them, and as many on both sides as there is room.
     fn excerpt(&self, line: &[char]) -> (usize, usize) {
         let at = self.before.min(line.len());
-        let (mut start, mut end) = (at, (at + 1).min(line.len()));
+        let (mut start, mut end) = (at, at);
+        let mut room = EXCERPT;
         loop {
-            let room = EXCERPT.saturating_sub(width(&line[start..end]));
             let (can_left, can_right) = (start > 0, end < line.len());
-            if room < 2 || !(can_left || can_right) {
-                return (start, end);
-            }
             // A third before the place and two thirds after it, as long as there is something.
-            let takes_left = can_left && (!can_right || 2 * (at - start) <= end - at);
+            let takes_left = can_left && (!can_right || 2 * (at - start) < end - at);
+            let next = if takes_left { start.wrapping_sub(1) } else { end };
+            // A character takes a column at least, so that a row of marks has an end too.
+            let taken = line.get(next).map(|&character| columns(character).max(1));
+            match taken.and_then(|taken| room.checked_sub(taken)) {
+                Some(rest) => room = rest,
+                None => return (start, end),
+            }
             if takes_left {
                 start -= 1;
             } else {
@@ -233,6 +248,12 @@ mod tests {
             let under = (0..shown.len()).find(|&index| width(&shown[..index]) == mark);
             assert_eq!(under.map(|index| shown[index]), Some(text[before]), "{told}");
         }
+    }
+
+    #[test]
+    fn a_row_of_marks_has_an_end() {
+        let told = spot(&"\u{301}".repeat(1_000_000), 500_000, 1);
+        assert!(told.chars().count() < 200, "{told}");
     }
 
     #[test]

@@ -6,10 +6,11 @@
 use std::ffi::{OsStr, OsString};
 use std::fs::{self, File, Metadata, OpenOptions, Permissions};
 use std::io::{self, ErrorKind, Write};
+use std::os::unix::ffi::OsStrExt;
 use std::os::unix::fs::{fchown, MetadataExt, OpenOptionsExt, PermissionsExt};
 use std::path::{Path, PathBuf};
 use std::process;
-use std::time::Duration;
+use std::time::{Duration, SystemTime};
 
 use crate::failure::Failure;
 
@@ -35,10 +36,16 @@ pub struct Staged {
 impl Staged {
     /// Writes what is to stand at this path, in a file beside it.
     pub fn new(path: &Path, content: &[u8]) -> Result<Staged, Failure> {
-        Staged::write(path, content).map_err(|error| Failure::writing(path.display(), &error))
+        Staged::write(path, content, AN_HOUR).map_err(|error| Failure::writing(path.display(), &error))
     }
 
-    fn write(path: &Path, content: &[u8]) -> io::Result<Staged> {
+    /// The same, where no other program may be writing there meanwhile.
+    pub fn alone(path: &Path, content: &[u8]) -> Result<Staged, Failure> {
+        Staged::write(path, content, Duration::ZERO).map_err(|error| Failure::writing(path.display(), &error))
+    }
+
+    /// What killed programs have left there at least so long ago is removed.
+    fn write(path: &Path, content: &[u8], age: Duration) -> io::Result<Staged> {
         let target = target(path)?;
         let old = fs::metadata(&target).ok();
         if let Some(old) = &old {
@@ -48,7 +55,7 @@ impl Staged {
             // Who may not write the file does not replace it either.
             OpenOptions::new().write(true).open(&target)?;
         }
-        sweep(&target, AN_HOUR);
+        sweep(&target, age);
         // Nobody may read it meanwhile who may not read the file that it replaces.
         let mode = if old.is_some() { 0o600 } else { 0o666 };
         let (staged, mut file) = Staged::beside(path, target, mode)?;
@@ -60,24 +67,23 @@ impl Staged {
         Ok(staged)
     }
 
-    /// A new file beside another, under a name that nobody else has.
+    /// A new file beside another, under a name that nobody else has: programs of two machines, or of two containers of
+    /// one, may have the same number.
     fn beside(named: &Path, target: PathBuf, mode: u32) -> io::Result<(Staged, File)> {
-        let folder = folder(&target);
-        let mut attempt = 0;
-        loop {
+        let now = SystemTime::now().duration_since(SystemTime::UNIX_EPOCH).unwrap_or_default();
+        for attempt in now.as_nanos().. {
             let mut name = beginning(&target)?;
             name.push(format!("{}-{attempt}{ENDING}", process::id()));
-            let written = folder.join(name);
+            let written = folder(&target).join(name);
             match OpenOptions::new().write(true).create_new(true).mode(mode).open(&written) {
-                Ok(file) => {
+                Err(error) if error.kind() == ErrorKind::AlreadyExists => {}
+                opened => {
                     let named = named.to_path_buf();
-                    return Ok((Staged { named, target, written, is_there: true }, file));
+                    return Ok((Staged { named, target, written, is_there: true }, opened?));
                 }
-                // It was left by a program of this number that was killed, or is that of another machine's.
-                Err(error) if error.kind() == ErrorKind::AlreadyExists => attempt += 1,
-                Err(error) => return Err(error),
             }
         }
+        unreachable!("there are more names than files")
     }
 
     /// The file whose place it takes.
@@ -100,17 +106,35 @@ impl Staged {
 
     /// Puts the file in its place, unless there is one: renaming would replace it, and a link never does.
     pub fn put_in_free_place(mut self) -> Result<(), Failure> {
-        let linked = match fs::hard_link(&self.written, &self.target) {
+        match self.link() {
+            // Whatever else went wrong, it would not have been put there.
+            Err(_) if fs::symlink_metadata(&self.target).is_ok() => Err(self.failure(&there_already())),
+            linked => linked.map_err(|error| self.failure(&error)),
+        }
+    }
+
+    fn link(&mut self) -> io::Result<()> {
+        match fs::hard_link(&self.written, &self.target) {
             // Some disks and shares have no links. There an empty file keeps the place until the file is renamed.
             Err(error) if matches!(error.kind(), ErrorKind::Unsupported | ErrorKind::PermissionDenied) => {
-                let kept = OpenOptions::new().write(true).create_new(true).open(&self.target);
-                kept.and_then(|_empty| self.rename())
+                OpenOptions::new().write(true).create_new(true).open(&self.target)?;
+                self.rename().inspect_err(|_error| drop(fs::remove_file(&self.target)))
             }
-            linked => linked,
-        };
-        linked.map_err(|error| self.failure(&error))?;
-        settle(&self.target);
-        Ok(())
+            Err(error) => Err(error),
+            Ok(()) => {
+                self.remove();
+                settle(&self.target);
+                Ok(())
+            }
+        }
+    }
+
+    /// Takes away the name under which it was written, if it still has it.
+    fn remove(&mut self) {
+        if self.is_there {
+            let _ = fs::remove_file(&self.written);
+            self.is_there = false;
+        }
     }
 
     fn failure(&self, error: &io::Error) -> Failure {
@@ -119,16 +143,16 @@ impl Staged {
 }
 
 impl Drop for Staged {
-    /// Takes away the name under which it was written, if it still has it.
     fn drop(&mut self) {
-        if self.is_there {
-            let _ = fs::remove_file(&self.written);
-        }
+        self.remove();
     }
 }
 
 /// The file that a path names, links followed, so that a link to it stays one.
 fn target(path: &Path) -> io::Result<PathBuf> {
+    if path.as_os_str().as_encoded_bytes().ends_with(b"/") {
+        return Err(io::Error::other("it is a name of a folder"));
+    }
     match fs::canonicalize(path) {
         Err(error) if error.kind() == ErrorKind::NotFound => {
             if fs::symlink_metadata(path).is_ok() {
@@ -143,7 +167,7 @@ fn target(path: &Path) -> io::Result<PathBuf> {
 
 /// Removes what killed programs have left beside a file at least so long ago, as far as that can be done. What may be
 /// a running program's must be younger.
-pub fn sweep(target: &Path, age: Duration) {
+fn sweep(target: &Path, age: Duration) {
     let (Ok(beginning), Ok(entries)) = (beginning(target), fs::read_dir(folder(target))) else { return };
     for entry in entries.flatten() {
         let is_old = || Some(entry.metadata().ok()?.modified().ok()?.elapsed().ok()? >= age);
@@ -167,6 +191,8 @@ fn is_left(name: &[u8], beginning: &[u8]) -> bool {
 /// How the names of files beside this one begin.
 fn beginning(target: &Path) -> io::Result<OsString> {
     let name = target.file_name().ok_or_else(|| io::Error::other("it has no name of a file"))?;
+    // A system's longest name has 255 bytes, and what follows needs some.
+    let name = OsStr::from_bytes(&name.as_bytes()[..name.len().min(180)]);
     Ok([OsStr::new("."), name, OsStr::new(".")].into_iter().collect())
 }
 
@@ -185,6 +211,19 @@ fn keep_access(file: &File, old: &Metadata) -> io::Result<()> {
     let mode = old.mode() & 0o777;
     let mode = if is_kept { mode } else { mode & !0o070 | mode & (mode << 3) & 0o070 };
     file.set_permissions(Permissions::from_mode(mode))
+}
+
+/// Why a new file is not written.
+pub fn there_already() -> io::Error {
+    io::Error::new(ErrorKind::AlreadyExists, "it is there already")
+}
+
+/// Which file something is of, whatever the file is called: its disk and its number there.
+pub type Identity = (u64, u64);
+
+/// Which file this is of.
+pub fn identity(metadata: &Metadata) -> Identity {
+    (metadata.dev(), metadata.ino())
 }
 
 /// Makes a new name last through a power failure. Where a system cannot, the old name's file or the new one's is there

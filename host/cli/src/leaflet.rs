@@ -3,16 +3,19 @@
 use std::ffi::OsStr;
 use std::fs::File;
 use std::io::{self, Read};
+use std::os::fd::AsFd;
 use std::path::Path;
 
 use gelumbrio::TextPlace;
 
 use crate::failure::{Failure, Spot};
+use crate::files::{identity, Identity};
 
 /// A leaflet's text, and what its file is called.
 #[derive(Debug)]
 pub struct Leaflet {
     name: String,
+    identity: Identity,
     text: Vec<u8>,
 }
 
@@ -56,21 +59,28 @@ impl Leaflet {
     /// A byte order mark at its start and the end of its last line belong to the file: programs that write texts put
     /// them there, and people do not see them.
     pub fn read(name: &OsStr) -> Result<Leaflet, Failure> {
-        let (bytes, shown) = match name == "-" {
-            true => (read_all(io::stdin().lock()), "standard input".to_string()),
-            false => (File::open(name).and_then(read_all), Path::new(name).display().to_string()),
+        let (file, name) = match name == "-" {
+            true => (io::stdin().as_fd().try_clone_to_owned().map(File::from), "standard input".to_string()),
+            false => (File::open(name), Path::new(name).display().to_string()),
         };
-        let bytes = bytes.map_err(|error| Failure::reading(&shown, &error))?;
+        let read = file.and_then(|file| Ok((identity(&file.metadata()?), read_all(file)?)));
+        let (identity, bytes) = read.map_err(|error| Failure::reading(&name, &error))?;
         if bytes.len() as u64 > LONGEST {
-            let what = format!("{shown} has more than {} MB, and a leaflet 256 characters", LONGEST >> 20);
+            let what =
+                format!("{name} has more than {} MB; a leaflet has 256 characters at most", LONGEST >> 20);
             return Err(Failure::plain(what).advising("Is it the right file?"));
         }
-        Ok(Leaflet { name: shown, text: without_marks(bytes) })
+        Ok(Leaflet { name, identity, text: without_marks(bytes) })
     }
 
     /// What the file is called.
     pub fn name(&self) -> &str {
         &self.name
+    }
+
+    /// Which file it is, whatever it is called.
+    pub fn identity(&self) -> Identity {
+        self.identity
     }
 
     /// The leaflet's text.

@@ -43,40 +43,33 @@ impl Layout {
         u64::from(self.top) + number as u64 * u64::from(self.pitch)
     }
 
-    /// Where the characters of a line stand on: fonts have 0.88 of the square above it.
+    /// Where the characters of a line stand on.
     fn baseline(&self, number: usize) -> u64 {
-        self.line_top(number) + u64::from(self.em * 22 / 25)
+        self.line_top(number) + u64::from(ascent(self.em))
     }
+}
+
+/// How far the square of a character reaches above what it stands on: in fonts 0.88 of its size.
+fn ascent(size: u32) -> u32 {
+    size * 22 / 25
+}
+
+/// How far it reaches below.
+fn descent(size: u32) -> u32 {
+    size * 3 / 25
+}
+
+/// How far above what it stands on its middle is.
+fn middle(size: u32) -> u32 {
+    (ascent(size) - descent(size)) / 2
 }
 
 /// The picture.
 pub fn svg(paragraph: &Paragraph, title: &str, marks: bool) -> String {
     let layout = Layout::new(paragraph, marks);
-    let width = u64::from(layout.left) + u64::from(paragraph.measure) + u64::from(layout.right);
-    let last = paragraph.lines.len().saturating_sub(1);
-    let bottom = layout.line_top(last) + u64::from(layout.em);
-    let height = bottom + u64::from(layout.em);
-    let scale = PIXELS / f64::from(layout.em);
-
     let mut svg = String::new();
     let mut put = |text: String| writeln!(svg, "{text}").expect("a string takes it");
-    put(format!(
-        "<svg xmlns=\"http://www.w3.org/2000/svg\" xml:lang=\"ja\" lang=\"ja\" xml:space=\"preserve\" \
-         width=\"{:.0}\" height=\"{:.0}\" viewBox=\"-{} 0 {width} {height}\">",
-        width as f64 * scale,
-        height as f64 * scale,
-        layout.left,
-    ));
-    put(format!("<title>{}</title>", escaped(title)));
-    let text: String = paragraph.records.iter().filter_map(|record| record.character()).collect();
-    put(format!("<desc>{}</desc>", escaped(&text)));
-    put(style(marks));
-    put(format!(
-        "<rect class=\"paper\" x=\"-{}\" y=\"0\" width=\"{width}\" height=\"{height}\"/>",
-        layout.left
-    ));
-    let (top, measure) = (layout.top - layout.em / 2, paragraph.measure);
-    put(format!("<path class=\"edge\" d=\"M0 {top}V{bottom}M{measure} {top}V{bottom}\"/>"));
+    page(paragraph, title, marks, &layout, &mut put);
     for (number, line) in paragraph.lines.iter().enumerate() {
         put(format!("<g transform=\"translate(0 {})\">", layout.baseline(number)));
         if marks {
@@ -90,6 +83,29 @@ pub fn svg(paragraph: &Paragraph, title: &str, marks: bool) -> String {
     }
     put("</svg>".to_string());
     svg
+}
+
+/// What is there before the lines: the paper, and the edges of the measure.
+fn page(paragraph: &Paragraph, title: &str, marks: bool, layout: &Layout, put: &mut impl FnMut(String)) {
+    let &Layout { em, left, right, top, .. } = layout;
+    let measure = paragraph.measure;
+    let width = u64::from(left) + u64::from(measure) + u64::from(right);
+    let bottom = layout.line_top(paragraph.lines.len().saturating_sub(1)) + u64::from(em);
+    let height = bottom + u64::from(em);
+    let pixels = |units: u64| units as f64 * PIXELS / f64::from(em);
+    put(format!(
+        "<svg xmlns=\"http://www.w3.org/2000/svg\" xml:lang=\"ja\" lang=\"ja\" xml:space=\"preserve\" \
+         width=\"{:.0}\" height=\"{:.0}\" viewBox=\"-{left} 0 {width} {height}\">",
+        pixels(width),
+        pixels(height),
+    ));
+    put(format!("<title>{}</title>", escaped(title)));
+    let text: String = paragraph.records.iter().filter_map(|record| record.character()).collect();
+    put(format!("<desc>{}</desc>", escaped(&text)));
+    put(style(marks));
+    put(format!("<rect class=\"paper\" x=\"-{left}\" y=\"0\" width=\"{width}\" height=\"{height}\"/>"));
+    let top = top - em / 2;
+    put(format!("<path class=\"edge\" d=\"M0 {top}V{bottom}M{measure} {top}V{bottom}\"/>"));
 }
 
 fn style(marks: bool) -> String {
@@ -112,7 +128,7 @@ fn line_marks(
     put: &mut impl FnMut(String),
 ) {
     let (em, small) = (layout.em, layout.em / 4);
-    let above = em * 22 / 25;
+    let above = ascent(em);
     put(format!("<text class=\"number\" font-size=\"{}\" x=\"-{em}\" y=\"0\">{number}</text>", em / 2));
     let (measure, name) = (u64::from(paragraph.measure), kind(line.kind));
     let x = measure + u64::from(em / 2);
@@ -124,7 +140,7 @@ fn line_marks(
             put(format!(
                 "<rect class=\"gap\" x=\"{start}\" y=\"-{above}\" width=\"{gap}\" height=\"{em}\"/>"
             ));
-            let y = em * 3 / 25 + small;
+            let y = descent(em) + small;
             put(format!(
                 "<text class=\"amount\" font-size=\"{small}\" x=\"{middle}\" y=\"{y}\">{gap}</text>"
             ));
@@ -144,8 +160,7 @@ fn characters(paragraph: &Paragraph, line: &Line, put: &mut impl FnMut(String)) 
 fn ruby(paragraph: &Paragraph, group: &Group, put: &mut impl FnMut(String)) {
     let size = paragraph.records[group.first].size;
     let half = size / 2;
-    // The base's square reaches 0.88 of its size up, the ruby's 0.12 of its own down.
-    let up = size * 22 / 25 + half * 3 / 25;
+    let up = ascent(size) + descent(half);
     let Some(ruby) = &group.ruby else {
         let (y, radius, thin) = (up + half / 3, half / 4, f64::from(size) / 40.0);
         for x in &group.ruby_xs {
@@ -177,8 +192,8 @@ fn element(shapes: &[Shape], up: u32) -> String {
         Drawn::Condensed => {
             (size, up, format!(" textLength=\"{advance}\" lengthAdjust=\"spacingAndGlyphs\""))
         }
-        // The middle of its square stays where it is, 0.38 of the size above the line.
-        Drawn::Smaller => (advance, up + (size - advance) * 19 / 50, String::new()),
+        // The middle of its square stays where it is.
+        Drawn::Smaller => (advance, up + (middle(size) - middle(advance)), String::new()),
         Drawn::FromStart { .. } | Drawn::InMiddle => (size, up, shifts(shapes)),
     };
     let y = if up == 0 { String::new() } else { format!(" y=\"-{up}\"") };

@@ -4,9 +4,9 @@ use std::path::Path;
 
 use gelumbrio::{class_of, Clinic, Found, LeafletFault, Record, Refusal, Sheet, SlotNumber};
 
-use crate::characters::named;
+use crate::characters::{named, REPLACEMENT};
 use crate::check;
-use crate::failure::{Failure, Refused, Spot};
+use crate::failure::{Failure, Spot};
 use crate::leaflet::{Leaflet, Reading};
 use crate::scratch::{self, MOST_RECORDS};
 
@@ -51,66 +51,65 @@ pub fn of_change(call: Call<'_>, change: &Change<'_>, refusal: Refusal) -> Failu
 impl Call<'_> {
     /// A refusal by what the sheet is and holds.
     pub fn refused(self, refusal: Refusal) -> Failure {
-        let Call { file, sheet, clinic: Clinic(clinic), slot } = self;
-        let (file, number) = (file.display(), slot.0);
+        let Call { file, sheet, clinic: Clinic(clinic), slot: SlotNumber(slot) } = self;
+        let file = file.display();
+        let listing = format!("`gelumbrio sheet check {file}` lists whose each slot is.");
         let (what, advice) = match refusal {
-            Refusal::Slot => (
-                format!("{file} has no slot {number}"),
-                format!(
-                    "It has {}, numbered from 0; `gelumbrio sheet check {file}` lists them.",
-                    counted(sheet.slots() as u32, "slot")
-                ),
-            ),
+            Refusal::Slot => {
+                let count = counted(sheet.slots() as u32, "slot");
+                (format!("{file} has no slot {slot}"), format!("It has {count}, numbered from 0."))
+            }
             Refusal::Caller if clinic == 0 => {
                 ("clinic 0 is nobody, and has no slot".to_string(), "Clinics are 1 to 65,535.".to_string())
             }
-            Refusal::Caller => (
-                format!("slot {number} of {file} is not clinic {clinic}'s"),
-                format!("`gelumbrio sheet check {file}` lists whose each slot is."),
-            ),
-            Refusal::NoneFree if self.has_slots() => (
+            Refusal::Caller => (format!("slot {slot} of {file} is not clinic {clinic}'s"), listing),
+            Refusal::NoneFree if !self.has_slots() => {
+                (format!("clinic {clinic} has no slot in {file}"), listing)
+            }
+            Refusal::NoneFree => (
                 format!("clinic {clinic} has no free slot in {file}"),
                 format!("`gelumbrio give {file} --clinic {clinic} --slot ..` empties one and frees it."),
             ),
-            Refusal::NoneFree => (
-                format!("clinic {clinic} has no slot in {file}"),
-                format!("`gelumbrio sheet check {file}` lists whose each slot is."),
-            ),
             Refusal::NotInUse => (
-                format!("slot {number} of {file} is not in use"),
+                format!("slot {slot} of {file} is not in use"),
                 format!("`gelumbrio take {file} --clinic {clinic}` takes the clinic's lowest free slot."),
             ),
-            Refusal::Damaged => {
-                let damage = sheet.slot(slot).and_then(check::damage);
-                let why = damage.clone().unwrap_or_else(|| "it has more than 256 lines".to_string());
-                let mending = match damage {
-                    Some(_) => "Only a new sheet mends it, or an older copy of the file.".to_string(),
-                    None => {
-                        format!("`gelumbrio edit {file} --clinic {clinic} --slot {number} --at 0` mends it.")
-                    }
-                };
-                (format!("slot {number} of {file} is damaged: {why}"), mending)
-            }
+            Refusal::Damaged => self.damaged(),
             Refusal::PastEnd { count } => (
                 format!(
-                    "the edit reaches past the end of slot {number}, which has {}",
+                    "the edit reaches past the end of slot {slot}, which has {}",
                     counted(count, "record")
                 ),
                 format!("A place is 0 to {count}, and what is deleted must be there."),
             ),
-            other => (other.to_string(), String::new()),
+            other => return Failure::numbered(other.number(), other.to_string()),
         };
-        let advice = Some(advice).filter(|advice| !advice.is_empty()).into_iter().collect();
-        Failure::from(Refused { number: Some(refusal.number()), what, spot: None, advice })
+        Failure::numbered(refusal.number(), what).advising(advice)
+    }
+
+    /// Why a slot is damaged, and what mends it. A read finds more lines than there can be, and an edit mends them.
+    fn damaged(self) -> (String, String) {
+        let Call { file, sheet, clinic, slot } = self;
+        let (why, mending) = match sheet.slot(slot).and_then(check::damage) {
+            Some(why) => (why, check::MENDING.to_string()),
+            None => {
+                let mending = format!("`{}` mends it.", composing(file, clinic, slot));
+                ("it has more than 256 lines".to_string(), mending)
+            }
+        };
+        (format!("slot {} of {} is damaged: {why}", slot.0, file.display()), mending)
+    }
+
+    /// Whether the clinic that calls has a slot on the sheet.
+    fn has_slots(self) -> bool {
+        let mut slots = (0..self.sheet.slots()).filter_map(|slot| self.sheet.slot(SlotNumber(slot as u32)));
+        slots.any(|slot| slot.clinic() == self.clinic)
     }
 }
 
-impl Call<'_> {
-    /// Whether the clinic that calls has a slot on the sheet.
-    fn has_slots(self) -> bool {
-        let slots = (0..self.sheet.slots()).filter_map(|slot| self.sheet.slot(SlotNumber(slot as u32)));
-        slots.into_iter().any(|slot| slot.clinic() == self.clinic)
-    }
+/// The command that composes a slot anew and changes no record of it.
+pub fn composing(file: &Path, clinic: Clinic, slot: SlotNumber) -> String {
+    format!("gelumbrio edit {} --clinic {} --slot {} --at 0", file.display(), clinic.0, slot.0)
 }
 
 /// So many of something.
@@ -138,15 +137,13 @@ impl<'a> Change<'a> {
             Refusal::Record { record } => (record as usize, self.own_rules(record as usize)),
             Refusal::Group { record } => (record as usize, self.group_rule(record as usize)),
             Refusal::NoBreaking { record } => (record as usize, self.too_wide(record, measure, indent)),
-            Refusal::NotListed { record } => (record as usize, (refusal.to_string(), String::new())),
-            other => (0, (other.to_string(), String::new())),
+            // No leaflet comes to this: its characters have the classes that their lists give.
+            Refusal::NotListed { record } => {
+                (record as usize, (refusal.to_string(), "Give it the class of its list.".to_string()))
+            }
+            other => return Failure::numbered(other.number(), other.to_string()),
         };
-        Failure::from(Refused {
-            number: Some(refusal.number()),
-            what,
-            spot: Some(self.spot(record)),
-            advice: Some(advice).filter(|advice| !advice.is_empty()).into_iter().collect(),
-        })
+        Failure::numbered(refusal.number(), what).at(self.spot(record)).advising(advice)
     }
 
     fn too_many(&self) -> (String, String) {
@@ -185,29 +182,25 @@ impl<'a> Change<'a> {
                 ),
                 "End the ruby element before it, and begin another after it if need be.".to_string(),
             )
-        } else if ruby_count > 64 {
+        } else {
             (
                 format!("there are {ruby_count} ruby characters over this, and 64 are the most"),
                 "Shorten its <rt>.".to_string(),
             )
-        } else {
-            (Refusal::Record { record: record as u32 }.to_string(), String::new())
         }
     }
 
     /// Which text is too wide for a line, and how long a line must be.
     fn too_wide(&self, record: u32, measure: u32, indent: u32) -> (String, String) {
-        let after = if record == 0 && indent > 0 { " and its indent" } else { "" };
-        let what = format!(
-            "from here to where a line may next end, the text{after} is wider than {measure}, a line"
-        );
+        let text = if record == 0 && indent > 0 { "indent and text are" } else { "the text is" };
+        let what = format!("up to where a line may next end, {text} wider than a line of {measure} units");
         let advice = match scratch::least_measure(indent, &self.records) {
             Some(least) => format!(
-                "The whole text needs a line of {least} units, {} of size {}; or make them smaller: --size.",
+                "It needs a line of {least} units, which is {} of size {}; or a smaller --size.",
                 counted(least.div_ceil(self.size.max(1)), "character"),
                 self.size
             ),
-            None => "No line is long enough for it: make the characters smaller, --size.".to_string(),
+            None => "No line is long enough for it: name a smaller --size.".to_string(),
         };
         (what, advice)
     }
@@ -218,7 +211,7 @@ impl<'a> Change<'a> {
         if let (Some(letter), Some(leaflet)) = (letter, self.leaflet) {
             return leaflet.spot(letter.offset, 1);
         }
-        let line = self.records.iter().map(|record| record.character().unwrap_or('\u{FFFD}')).collect();
+        let line = self.records.iter().map(|record| record.character().unwrap_or(REPLACEMENT)).collect();
         Spot {
             name: format!("the slot's text after the edit, record {record}"),
             line,
@@ -234,12 +227,8 @@ pub fn no_leaflet(fault: LeafletFault, leaflet: &Leaflet) -> Failure {
         Found::Tag(tag) => String::from_utf8_lossy(tag.as_bytes()).chars().count(),
         _ => 1,
     };
-    Failure::from(Refused {
-        number: Some(17),
-        what: fault.found.to_string(),
-        spot: Some(leaflet.spot(fault.offset, length)),
-        advice: vec![mending(fault.found)],
-    })
+    let spot = leaflet.spot(fault.offset, length);
+    Failure::numbered(17, fault.found.to_string()).at(spot).advising(mending(fault.found))
 }
 
 /// What to write in place of what cannot stand in a leaflet.
@@ -248,9 +237,7 @@ fn mending(found: Found) -> String {
         Found::Character('\n' | '\r') => {
             "A leaflet is one paragraph on one line: join its lines.".to_string()
         }
-        Found::Character(' ' | '\t' | '\u{A0}') => {
-            "There are no spaces in a leaflet but the ideographic one, U+3000.".to_string()
-        }
+        Found::Character(' ' | '\t') => "Leave it out, or write the ideographic space, U+3000.".to_string(),
         Found::Character('&') => "Write the character itself; character references are not read.".to_string(),
         Found::Character('>') => "〈 and 〉 may stand in a text; < and > stand in tags alone.".to_string(),
         Found::Character('（' | '［' | '｛') => {

@@ -102,7 +102,7 @@ fn characters(reading: &Reading, size: u32) -> Vec<Record> {
     letters.map(record).collect()
 }
 
-/// A record that is refused, as an import of it is: the size is none. Its advance is the least that is wrong with it.
+/// A record of a size that is none, which an edit refuses as the import did, whatever its advance.
 fn of_no_size(character: char, size: u32) -> Record {
     let class = class_of(character).unwrap_or(0);
     Record { code_point: character.into(), class, size, advance: size, group: 0, ruby_count: 0 }

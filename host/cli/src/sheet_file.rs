@@ -6,14 +6,12 @@
 
 use std::fs::{self, File, OpenOptions};
 use std::io::{self, Read};
-use std::os::unix::fs::MetadataExt;
 use std::path::{Path, PathBuf};
-use std::time::Duration;
 
 use gelumbrio::{Sheet, MAX_SLOTS, SLOT_WORDS};
 
-use crate::failure::{Failure, Refused};
-use crate::files::{self, Staged};
+use crate::failure::Failure;
+use crate::files::{identity, there_already, Staged};
 
 /// A slot's bytes.
 const SLOT_BYTES: usize = SLOT_WORDS * size_of::<u32>();
@@ -21,6 +19,9 @@ const SLOT_BYTES: usize = SLOT_WORDS * size_of::<u32>();
 /// A sheet's file that this program alone may change.
 #[derive(Debug)]
 pub struct LockedSheet {
+    /// What it was called.
+    named: PathBuf,
+    /// Where it is.
     path: PathBuf,
     /// The lock is given up where the file is closed.
     file: File,
@@ -28,6 +29,10 @@ pub struct LockedSheet {
 
 /// Writes a new sheet to a file that is not there yet.
 pub fn create(path: &Path, sheet: &Sheet) -> Result<(), Failure> {
+    // The link asks it again; so early it is told of files too that could not be replaced.
+    if fs::symlink_metadata(path).is_ok() {
+        return Err(Failure::writing(path.display(), &there_already()));
+    }
     Staged::new(path, &bytes(sheet))?.put_in_free_place()
 }
 
@@ -44,39 +49,36 @@ impl LockedSheet {
         LockedSheet::lock(path).map_err(|error| Failure::writing(path.display(), &error))
     }
 
-    fn lock(path: &Path) -> io::Result<LockedSheet> {
-        let mut path = fs::canonicalize(path)?;
+    fn lock(named: &Path) -> io::Result<LockedSheet> {
+        let path = fs::canonicalize(named)?;
         loop {
             ordinary(&path)?;
             let file = OpenOptions::new().read(true).write(true).open(&path)?;
             file.lock()?;
-            let locked = LockedSheet { path, file };
+            let locked = LockedSheet { named: named.to_path_buf(), path: path.clone(), file };
             if locked.is_named()? {
                 return Ok(locked);
             }
-            path = locked.path;
         }
     }
 
     /// Whether the locked file still is the one that has the sheet's name.
     fn is_named(&self) -> io::Result<bool> {
-        let (locked, named) = (self.file.metadata()?, fs::metadata(&self.path)?);
-        Ok((locked.dev(), locked.ino()) == (named.dev(), named.ino()))
+        Ok(identity(&self.file.metadata()?) == identity(&fs::metadata(&self.path)?))
     }
 
     /// The sheet as it is.
     pub fn read(&self) -> Result<Sheet, Failure> {
-        sheet_in(&self.file, &self.path)
+        sheet_in(&self.file, &self.named)
     }
 
     /// Puts a changed sheet in its place, and lets others go on.
     pub fn replace(self, sheet: &Sheet) -> Result<(), Failure> {
-        files::sweep(&self.path, Duration::ZERO);
-        let staged = Staged::new(&self.path, &bytes(sheet))?;
+        let staged = Staged::alone(&self.path, &bytes(sheet))?;
         // Programs keep to the lock, but people move files.
         match self.is_named() {
             Ok(true) => staged.put_in_place(),
-            _ => Err(Failure::plain(format!("{} was moved away meanwhile", self.path.display()))
+            _ => Err(Failure::plain(format!("{} was moved away meanwhile", self.named.display()))
                 .advising("Nothing is changed: try again.")),
         }
     }
@@ -105,15 +107,9 @@ fn sheet_in(file: &File, path: &Path) -> Result<Sheet, Failure> {
 }
 
 fn no_sheet(path: &Path, length: u64) -> Failure {
-    Failure::from(Refused {
-        number: Some(1),
-        what: format!("{} is no sheet: it has {length} bytes", path.display()),
-        spot: None,
-        advice: vec![
-            format!("A sheet's file has {SLOT_BYTES} bytes for each of its 1 to {MAX_SLOTS} slots."),
-            "`gelumbrio sheet new` makes one.".to_string(),
-        ],
-    })
+    Failure::numbered(1, format!("{} is no sheet: it has {length} bytes", path.display()))
+        .advising(format!("A sheet's file has {SLOT_BYTES} bytes for each of its 1 to {MAX_SLOTS} slots."))
+        .advising("`gelumbrio sheet new` makes one.")
 }
 
 fn bytes(sheet: &Sheet) -> Vec<u8> {

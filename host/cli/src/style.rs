@@ -10,7 +10,7 @@ pub struct Style {
 }
 
 impl Style {
-    /// Coloured on a terminal, unless NO_COLOR is set to anything or the terminal has no colour.
+    /// Coloured on a terminal, unless NO_COLOR is set and not empty, or the terminal has no colour.
     pub fn of(stream: &impl IsTerminal) -> Style {
         let refused = env::var_os("NO_COLOR").is_some_and(|value| !value.is_empty());
         let is_dumb = env::var_os("TERM").is_some_and(|terminal| terminal == "dumb");

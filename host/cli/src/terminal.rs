@@ -14,7 +14,8 @@ use crate::style::Style;
 
 /// Stands for a ruby character of which it is not known which it is.
 const SOME_RUBY: char = '*';
-/// Shows a gap, where marks are wanted.
+/// Shows a gap, where marks are wanted. One that a half-width mark lies over, or that is less than half a column, is
+/// not seen.
 const GAP: char = '_';
 /// The columns before x 0: an opening bracket at a line's start has its empty half there.
 const MARGIN: i64 = 1;
@@ -75,9 +76,11 @@ fn base_row(paragraph: &Paragraph, line: &Line, column: u32, marks: bool) -> (Ro
     let mut row = Row::default();
     let mut at = Vec::new();
     let mut was_number = false;
-    for (record, &x) in paragraph.records[paragraph.records_of(line)].iter().zip(&line.xs) {
+    let gaps = if marks { after_gaps(paragraph, line) } else { Vec::new() };
+    for (index, &x) in paragraph.records_of(line).zip(&line.xs) {
+        let record = &paragraph.records[index];
         let character = record.character().unwrap_or(REPLACEMENT);
-        let filling = if marks && !at.is_empty() { GAP } else { ' ' };
+        let filling = if gaps.contains(&index) { GAP } else { ' ' };
         let start = i64::from(x) - i64::from(leading(record));
         let is_number = record.class == 27 && character.is_alphanumeric();
         // The space around a number, or a word, is less than a column. All of it is put before, so that a dose is read
@@ -91,6 +94,12 @@ fn base_row(paragraph: &Paragraph, line: &Line, column: u32, marks: bool) -> (Ro
         was_number = is_number;
     }
     (row, at)
+}
+
+/// The records of a line before which a gap is set.
+fn after_gaps(paragraph: &Paragraph, line: &Line) -> Vec<usize> {
+    let units = paragraph.units_of(line);
+    units.windows(2).filter(|pair| pair[0].end < pair[1].x).map(|pair| pair[1].first).collect()
 }
 
 /// The rows of ruby over a line, the lowest first.

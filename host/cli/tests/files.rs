@@ -2,11 +2,11 @@
 
 mod common;
 
-use std::fs::{self, Permissions};
+use std::fs::{self, File, Permissions};
 use std::os::unix::fs::{chown, symlink, MetadataExt, PermissionsExt};
 use std::os::unix::process::CommandExt;
-use std::path::Path;
 use std::process::Command;
+use std::time::{Duration, SystemTime};
 
 use common::{run_with, Folder, Said, PROGRAM};
 
@@ -25,14 +25,19 @@ fn files_that_cannot_be_read() {
         (&["take", "nothing", "--clinic", "7"], "cannot write nothing: No such file"),
         (&["take", "/dev/null", "--clinic", "7"], "cannot write /dev/null: it is no file of words"),
         (&["sheet", "check", "empty"], "refused with 1: empty is no sheet: it has 0 bytes"),
-        (&["take", "short", "--clinic", "7"], "it has 22591 bytes"),
+        (&["take", "short", "--clinic", "7"], "refused with 1: short is no sheet: it has 22591 bytes"),
         (&["give", "long", "--clinic", "7", "--slot", "0"], "it has 22593 bytes"),
         (&["edit", "huge", "--at", "0", "--clinic", "7", "--slot", "0"], "it has 734240 bytes"),
         (&["compose", "/dev/zero", "--chars", "9"], "/dev/zero has more than 16 MB"),
-        (&["sheet", "new", "ward", "--slot", "7:22:1"], "cannot write ward: File exists"),
+        (&["sheet", "new", "ward", "--slot", "7:22:1"], "cannot write ward: it is there already"),
         (&["sheet", "new", "no/ward", "--slot", "7:22:1"], "cannot write no/ward: No such file"),
         (&["compose", "/dev/null", "--chars", "9", "--svg", "."], "cannot write .: "),
         (&["compose", "/dev/null", "--chars", "9", "--html", "no/x"], "cannot write no/x: No such file"),
+        (
+            &["compose", "/dev/null", "--chars", "9", "--svg", "new/"],
+            "cannot write new/: it is a name of a folder",
+        ),
+        (&["sheet", "new", ".", "--slot", "7:22:1"], "cannot write .: it is there already"),
     ] {
         let said = folder.run(arguments).refused();
         assert!(said.contains(what), "{arguments:?}: {said}");
@@ -54,15 +59,19 @@ fn what_was_read_is_not_written_over() {
         assert!(folder.run(arguments).refused().contains("was read, and would be lost"));
         assert_eq!(folder.names(), names);
     }
+    let mut redirected = common::command(&folder.path, &["compose", "-", "--chars", "9", "--html", "x.html"]);
+    let said: Said = redirected.stdin(File::open(folder.file("x.html")).unwrap()).output().unwrap().into();
+    assert!(said.refused().contains("was read, and would be lost"));
     assert_eq!(folder.read("x.html"), "頭痛".as_bytes());
 }
 
 /// Runs the program as somebody who may not do everything.
 fn as_nobody(folder: &Folder, arguments: &[&str]) -> Said {
-    // Its own folder may be closed to others.
+    // Its own folder may be closed to others. This program must not have it open for writing when it starts one.
     let program = folder.file("program");
     if !program.exists() {
-        fs::copy(PROGRAM, &program).unwrap();
+        assert!(Command::new("cp").arg(PROGRAM).arg(&program).status().unwrap().success());
+        fs::set_permissions(&program, Permissions::from_mode(0o755)).unwrap();
     }
     let mut command = Command::new(program);
     command.args(arguments).current_dir(&folder.path);
@@ -82,7 +91,7 @@ fn a_folder_that_cannot_be_written_to() {
     }
     assert_eq!(as_nobody(&folder, &["--version"]).status, 0);
     let names = folder.names();
-    fs::set_permissions(&folder.path, Permissions::from_mode(0o555)).unwrap();
+    folder.open_to(0o555);
     for (arguments, file) in [
         (&["give", "ward", "--clinic", "7", "--slot", "0"][..], "ward"),
         (&["import", "ward", "-", "--clinic", "7", "--slot", "0"], "ward"),
@@ -97,7 +106,7 @@ fn a_folder_that_cannot_be_written_to() {
         );
         assert!(said.contains("both it and its folder must be writable"), "{said}");
     }
-    fs::set_permissions(&folder.path, Permissions::from_mode(0o777)).unwrap();
+    folder.open_to(0o777);
     assert_eq!((folder.read("ward"), folder.read("x.svg")), (before, b"old".to_vec()));
     assert_eq!(folder.names(), names);
 
@@ -183,7 +192,7 @@ fn the_owner_stays_where_the_system_lets_it() {
     // A group that the caller may not give it: the group that it gets may do no more than others.
     chown(folder.file("ward"), Some(0), Some(0)).unwrap();
     fs::set_permissions(folder.file("ward"), Permissions::from_mode(0o676)).unwrap();
-    fs::set_permissions(&folder.path, Permissions::from_mode(0o777)).unwrap();
+    folder.open_to(0o777);
     as_nobody(&folder, &["take", "ward", "--clinic", "9"]).accepted();
     let kept = fs::metadata(folder.file("ward")).unwrap();
     assert_eq!((kept.uid(), kept.gid(), kept.mode() & 0o777), (65_534, 65_534, 0o666));
@@ -197,5 +206,22 @@ fn what_a_killed_program_left_is_swept_away() {
     folder.write(".ward.note", "a person's");
     folder.run(&["give", "ward", "--clinic", "7", "--slot", "0"]).accepted();
     assert_eq!(folder.names(), [".ward.2.1-0.gelumbrio-new", ".ward.note", "ward"]);
-    assert!(Path::new(&folder.file("ward")).exists());
+
+    // Beside a picture, which has no lock, a young one may be another program's.
+    let folder = Folder::new();
+    for (name, age) in [(".x.svg.1-0.gelumbrio-new", 3_500), (".x.svg.1-1.gelumbrio-new", 3_700)] {
+        folder.write(name, "half a picture");
+        let file = File::options().write(true).open(folder.file(name)).unwrap();
+        file.set_modified(SystemTime::now() - Duration::from_secs(age)).unwrap();
+    }
+    folder.run_with(&["compose", "-", "--chars", "9", "--svg", "x.svg"], "頭痛").accepted();
+    assert_eq!(folder.names(), [".x.svg.1-0.gelumbrio-new", "x.svg"]);
+}
+
+#[test]
+fn long_names_are_names_too() {
+    let folder = Folder::new();
+    let name = "薬".repeat(80) + ".svg";
+    folder.run_with(&["compose", "-", "--chars", "9", "--svg", &name], "頭痛").accepted();
+    assert_eq!(folder.names(), [name]);
 }

@@ -23,8 +23,9 @@ fn junk(random: &mut Random) -> Sheet {
             3 => LINES_AT + random.below(12),
             _ => random.below(2 * SLOT_WORDS),
         };
-        words[at] = match random.below(4) {
+        words[at] = match random.below(5) {
             0 => random.below(4) as u32,
+            3 => words[at],
             1 => words[at].wrapping_add(1),
             2 => random.below(300) as u32,
             _ => random.next() as u32,
@@ -46,7 +47,7 @@ fn agrees(folder: &Folder, said: &Said, accepted: bool, left: &Sheet) -> bool {
 fn commands_answer_as_their_calls_do_on_any_words() {
     let folder = Folder::new();
     let random = &mut Random(17);
-    let (mut accepted, mut refused) = (0, 0);
+    let (mut accepted, mut refused, mut sound, mut unsound) = (0, 0, 0, 0);
     for _ in 0..SHEETS {
         let sheet = junk(random);
         let call = |arguments: &[&str]| {
@@ -77,6 +78,21 @@ fn commands_answer_as_their_calls_do_on_any_words() {
         let said = call(&["sheet", "check", "ward"]);
         assert!(said.status == 0 || (said.status == 1 && said.out.is_empty()), "{said:?}");
         assert_eq!(folder.sheet("ward"), sheet);
+        if let Some(is_sound) = is_sound(&sheet) {
+            assert_eq!(said.status == 0, is_sound, "{said:?}");
+            *(if is_sound { &mut sound } else { &mut unsound }) += 1;
+        }
     }
-    println!("{accepted} changes accepted, {refused} refused");
+    println!("{accepted} changes accepted, {refused} refused; {sound} sheets sound, {unsound} not");
+    assert!(accepted > 0 && refused > 0 && sound > 0 && unsound > 0);
+}
+
+/// Whether an edit that changes no record is accepted and leaves the sheet as it is. It is asked where slot 0 is in use
+/// by clinic 7 and the other one as it was set up.
+fn is_sound(sheet: &Sheet) -> Option<bool> {
+    let words = sheet.words();
+    let is_asked = (words[0], words[5]) == (7, 1) && words[SLOT_WORDS..] == ward().words()[SLOT_WORDS..];
+    let mut left = sheet.clone();
+    let is_accepted = left.edit(Clinic(7), SLOT, 0, 0, &[]).is_ok();
+    is_asked.then(|| is_accepted && left == *sheet)
 }

@@ -4,7 +4,7 @@ mod common;
 
 use std::process::Stdio;
 use std::thread;
-use std::time::Instant;
+use std::time::Duration;
 
 use common::{command, text, Folder, Random};
 use gelumbrio::{Clinic, Sheet, SlotNumber};
@@ -77,6 +77,23 @@ fn eight_processes_share_one_slot() {
 }
 
 #[test]
+fn two_programs_draw_one_picture() {
+    let folder = Folder::new();
+    let draw = |text: &str| {
+        let said = folder.run_with(&["compose", "-", "--chars", "9", "--svg", "x.svg"], text);
+        (said.accepted(), folder.read("x.svg"))
+    };
+    let pictures = ["頭痛", "食後"].map(|text| draw(text).1);
+    thread::scope(|scope| {
+        for text in ["頭痛", "食後"] {
+            let (draw, pictures) = (&draw, &pictures);
+            scope.spawn(move || (0..50).for_each(|_| assert!(pictures.contains(&draw(text).1))));
+        }
+    });
+    assert_eq!(folder.names(), ["x.svg"]);
+}
+
+#[test]
 fn only_one_of_two_programs_makes_a_sheet() {
     for _ in 0..20 {
         let folder = Folder::new();
@@ -106,25 +123,25 @@ fn a_killed_program_leaves_the_old_sheet_or_the_new_one() {
         let mut command = command(&folder.path, &arguments);
         command.stdout(Stdio::null()).stderr(Stdio::null()).spawn().expect("the program runs")
     };
-    let started = Instant::now();
-    (0..10).for_each(|number| drop(import(["a", "b"][number % 2]).wait()));
-    let usual = started.elapsed() / 10;
-
+    // About as long as a program takes: longer after one that was killed too early, shorter after one too late.
+    let mut usual = Duration::from_millis(2);
     let (mut random, mut done) = (Random(1), 0);
     let mut held = folder.sheet("ward");
     for _ in 0..KILLS {
         let other = usize::from(held == sheets[0]);
         let mut running = import(["a", "b"][other]);
-        // From before it has begun until it must be done.
-        thread::sleep(usual * random.below(1_250) as u32 / 1_000);
+        thread::sleep(usual * random.below(2_000) as u32 / 1_000);
         let _ = running.kill();
         running.wait().expect("it ends");
         let left = folder.sheet("ward");
         assert!(left == held || left == sheets[other], "a sheet that is neither the old one nor the new one");
-        done += u32::from(left != held);
+        let is_done = left != held;
+        usual = if is_done { usual * 9 / 10 } else { usual * 11 / 10 };
+        done += u32::from(is_done);
         held = left;
     }
-    println!("{done} of {KILLS} programs were done before they were killed; one takes {usual:?}");
+    println!("{done} of {KILLS} programs were done before they were killed");
+    assert!(0 < done && done < KILLS);
     folder.run(&["sheet", "check", "ward"]).accepted();
     assert!(import("a").wait().expect("it ends").success());
     assert_eq!(folder.names(), ["a", "b", "ward"]);

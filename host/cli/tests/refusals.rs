@@ -36,7 +36,7 @@ fn a_text_that_is_no_leaflet() {
             2,
             "朝 夕",
             "  ^",
-            "There are no spaces in a leaflet but the ideographic one, U+3000.",
+            "Leave it out, or write the ideographic space, U+3000.",
         ),
         (
             "朝\n夕",
@@ -132,9 +132,8 @@ fn records_that_cannot_be_set_by_way_of_their_characters() {
     );
 
     let wide = composed("一日1234567890mgを", "4");
-    let what = "from here to where a line may next end, the text is wider than 320, a line";
-    let advice =
-        "The whole text needs a line of 480 units, 6 characters of size 80; or make them smaller: --size.";
+    let what = "up to where a line may next end, the text is wider than a line of 320 units";
+    let advice = "It needs a line of 480 units, which is 6 characters of size 80; or a smaller --size.";
     assert_eq!(wide, said(10, what, 1, 3, "一日1234567890mgを", "    ^", advice));
     // As it says, so it is.
     let folder = Folder::new();
@@ -195,13 +194,17 @@ fn calls_on_a_sheet() {
         (&["show", "ward", "--clinic", "9", "--slot", "1"], 14, "slot 1 of ward is not in use"),
         (&["show", "ward", "--clinic", "9", "--slot", "0"], 3, "slot 0 of ward is not clinic 9's"),
         (&["import", "ward", "seven.html", "--clinic", "9", "--slot", "0"], 3, "is not clinic 9's"),
-        (&["import", "ward", "seven.html", "--clinic", "7", "--slot", "0"], 10, "is wider than 1760"),
+        (
+            &["import", "ward", "seven.html", "--clinic", "7", "--slot", "0"],
+            10,
+            "indent and text are wider than a line of 1760 units",
+        ),
         (&["edit", "ward", "--at", "8", "--clinic", "7", "--slot", "0"], 5, "which has 7 records"),
         (&["edit", "ward", "--at", "7", "--delete", "1", "--clinic", "7", "--slot", "0"], 5, "past the end"),
         (
             &["edit", "ward", "seven.html", "--at", "4", "--clinic", "7", "--slot", "0"],
             10,
-            "is wider than 1760",
+            "is wider than a line of 1760 units",
         ),
         (
             &["edit", "ward", "seven.html", "--at", "9", "--clinic", "7", "--slot", "0"],

@@ -17,7 +17,7 @@ fn a_sheets_file_is_its_words() {
         said,
         "slot 0: clinic 7, measure 1760, indent 80: free\n\
          slot 1: clinic 9, measure 2400, indent 0: free\n\
-         slot 2: clinic 0, measure 8, indent 7: free\n"
+         slot 2: clinic 0, measure 8, indent 7: nobody's\n"
     );
     let mut sheet = Sheet::new(3).unwrap();
     sheet.set_up(&[Clinic(7), Clinic(9), Clinic(0)], &[1760, 2400, 8], &[80, 0, 7]).unwrap();
@@ -142,7 +142,7 @@ fn a_check_tells_what_each_slot_is() {
 
     // From before there was an in-use word: its text is there once it is taken.
     with_word(&folder, 5, 0);
-    assert!(check().accepted().contains("not in use, but not empty: once taken it has 15 records"));
+    assert!(check().accepted().contains("not in use, but not empty: it holds 15 records"));
     folder.run(&["take", "ward", "--clinic", "7"]).accepted();
 
     // Composed by another rule.

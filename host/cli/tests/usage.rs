@@ -31,10 +31,19 @@ fn help_is_there_for_the_whole_and_for_each_command() {
         assert_eq!(run(&[&["help"], words].concat()).accepted(), help);
         assert!(help.lines().chain(whole.lines()).all(|line| line.chars().count() < 120), "{help}");
     }
-    assert!(run(&["sheet", "--help"]).accepted().contains("sheet check FILE"));
+    assert!(whole.contains("\nExamples:\n"));
+    let both = run(&["sheet", "--help"]).accepted();
+    assert!(both.contains("sheet new FILE") && both.contains("sheet check FILE"));
+    assert_eq!(run(&["help", "sheet"]).accepted(), both);
 }
 
-/// The examples that help gives are commands that run.
+/// The examples of a help.
+fn examples(help: &str) -> Vec<&str> {
+    let examples = help.split("\nExample").nth(1).expect("examples");
+    examples.lines().filter_map(|line| line.strip_prefix("  ")).collect()
+}
+
+/// The examples that help gives are commands that run, one after the other.
 #[test]
 fn the_examples_of_help_run() {
     let folder = common::Folder::new();
@@ -45,11 +54,19 @@ fn the_examples_of_help_run() {
     }
     let bin = std::path::Path::new(PROGRAM).parent().unwrap();
     let path = format!("{}:{}", bin.display(), std::env::var("PATH").unwrap_or_default());
-    let mut count = 0;
+    let shell = |line: &str| {
+        let mut shell = Command::new("sh");
+        let ran =
+            shell.args(["-c", line]).current_dir(&folder.path).env("PATH", &path).output().expect("a shell");
+        assert!(ran.status.success(), "{line}: {}", String::from_utf8_lossy(&ran.stderr));
+    };
+    let whole = run(&["--help"]).accepted();
+    examples(&whole).into_iter().for_each(shell);
+
     let dose = ["import", "ward.sheet", "--clinic", "7", "--slot", "0", "examples/dose.html"];
     for words in COMMANDS {
         let help = run(&[words, &["--help"]].concat()).accepted();
-        for example in help.split("\nExample").nth(1).unwrap().lines().filter(|line| line.starts_with("  ")) {
+        for example in examples(&help) {
             // What the example needs is there: no sheet for a new one, else a slot taken, with a text.
             match words[0] {
                 "sheet" if words[1] == "new" => drop(std::fs::remove_file(folder.file("ward.sheet"))),
@@ -57,17 +74,9 @@ fn the_examples_of_help_run() {
                 "edit" | "show" => drop(folder.run(&dose).accepted()),
                 _ => {}
             }
-            let ran = Command::new("sh")
-                .args(["-c", example])
-                .current_dir(&folder.path)
-                .env("PATH", &path)
-                .output()
-                .expect("a shell");
-            assert!(ran.status.success(), "{example}: {}", String::from_utf8_lossy(&ran.stderr));
-            count += 1;
+            shell(example);
         }
     }
-    assert_eq!(count, 13);
 }
 
 #[test]
@@ -114,6 +123,16 @@ fn wrong_usage_has_a_status_of_its_own() {
     }
 }
 
+#[test]
+fn arguments_cannot_steer_the_terminal() {
+    for arguments in
+        [&["compose", "a", "\u{1B}]0;t\u{7}"][..], &["\u{1B}[2J"], &["sheet", "check", "\u{1B}[2J"]]
+    {
+        let said = run(arguments);
+        assert!(said.status != 0 && !said.err.contains('\u{1B}'), "{said:?}");
+    }
+}
+
 /// What the program says on a terminal, as `script` gives it one.
 fn on_a_terminal(arguments: &str, variables: &[(&str, &str)]) -> Option<String> {
     let mut script = Command::new("script");
@@ -129,7 +148,10 @@ fn there_is_colour_on_a_terminal_alone() {
     let arguments: Vec<&str> = refused.split(' ').collect();
     assert!(!run(&arguments).refused().contains('\u{1B}'));
     let marked = "compose examples/dose.html --chars 22 --marks";
-    let Some(coloured) = on_a_terminal(refused, &[]) else { return };
+    let Some(coloured) = on_a_terminal(refused, &[]) else {
+        println!("there is no `script` here to make a terminal: colour on one is not tested");
+        return;
+    };
     assert!(coloured.contains("\u{1B}[1;31mrefused with 17\u{1B}[0m"), "{coloured}");
     assert!(on_a_terminal(marked, &[]).unwrap().contains("\u{1B}[2m"));
     for variables in [("NO_COLOR", "1"), ("TERM", "dumb")] {
@@ -155,7 +177,10 @@ fn nobody_need_read_all_that_is_said() {
     assert_eq!(said.status.code(), Some(1));
     assert!(String::from_utf8_lossy(&said.stderr).contains("The sheet is changed all the same: slot 1\n"));
 
-    let head = format!("{PROGRAM} compose examples/dose.html --chars 22 --json | head -n 1");
-    let said = Command::new("sh").args(["-c", &head]).current_dir(root()).output().unwrap();
-    assert_eq!((said.stdout.as_slice(), said.stderr.as_slice()), (&b"{\n"[..], &b""[..]));
+    // A pipe that nobody reads from is no failure.
+    let (reader, writer) = std::io::pipe().unwrap();
+    drop(reader);
+    let mut unread = command(&root(), &["compose", "examples/dose.html", "--chars", "22"]);
+    let said = unread.stdout(writer).output().unwrap();
+    assert_eq!((said.status.code(), said.stderr.as_slice()), (Some(0), &b""[..]));
 }

@@ -1,13 +1,11 @@
 //! `compose`: a leaflet's lines.
 
-use std::path::Path;
-
 use gelumbrio::{Refusal, Sheet, SlotNumber};
 
 use super::show::Forms;
 use super::Done;
 use crate::arguments::{Arguments, Grammar, Length};
-use crate::failure::{Failure, Refused};
+use crate::failure::Failure;
 use crate::leaflet::{Leaflet, Reading};
 use crate::paragraph::Paragraph;
 use crate::refusals::{no_leaflet, no_size, Change};
@@ -27,16 +25,18 @@ pub fn run(mut arguments: Arguments) -> Result<Done, Failure> {
     let forms = Forms::of(&arguments)?;
     let size = size(&arguments)?;
     let (measure, indent) = line(&arguments, size)?;
-    let name = arguments.operand().unwrap_or_default();
-    let leaflet = Leaflet::read(&name)?;
+    let leaflet = Leaflet::read(&arguments.operand().unwrap_or_default())?;
 
-    let (mut sheet, slot) = scratch::fresh(measure, indent).map_err(|_limits| no_line(measure, indent))?;
+    let (mut sheet, slot) = scratch::fresh(measure, indent).map_err(|limits| {
+        let (what, advice) = no_line(measure, indent);
+        Failure::numbered(limits.number(), what).advising(advice)
+    })?;
     import(&mut sheet, slot, &leaflet, size, measure, indent)?;
     let reading = Reading::of(leaflet.text());
     let paragraph = Paragraph::of(&sheet, CALLER, slot, Some(&reading.elements));
     // What was imported just now can be read.
     let paragraph = paragraph.map_err(|refusal| Failure::plain(refusal.to_string()))?;
-    forms.show(&paragraph, leaflet.name(), &[Path::new(&name)])
+    forms.show(&paragraph, leaflet.name(), &[leaflet.identity()])
 }
 
 fn import(
@@ -61,7 +61,7 @@ pub fn size(arguments: &Arguments) -> Result<u32, Failure> {
         true => Ok(size),
         false => {
             let (what, advice) = no_size(size);
-            Err(Failure::from(Refused { number: Some(8), what, spot: None, advice: vec![advice] }))
+            Err(Failure::numbered(8, what).advising(advice))
         }
     }
 }
@@ -82,15 +82,14 @@ fn line(arguments: &Arguments, size: u32) -> Result<(u32, u32), Failure> {
 
 const MEASURE: &str = "A measure is 8 to 1,000,000 units.";
 
-/// A measure or an indent that is none.
-pub fn no_line(measure: u32, indent: u32) -> Failure {
-    let (what, advice) = match scratch::MEASURES.contains(&measure) {
+/// Why no line has this measure and this indent, and which a line has.
+pub fn no_line(measure: u32, indent: u32) -> (String, &'static str) {
+    match scratch::MEASURES.contains(&measure) {
         false if measure == u32::MAX => ("so long a line cannot be set".to_string(), MEASURE),
         false => (format!("a line of {measure} units cannot be set"), MEASURE),
         true => (
             format!("an indent of {indent} units leaves nothing of a line of {measure}"),
             "An indent is shorter than the line. A number with u is in units: 80u.",
         ),
-    };
-    Failure::from(Refused { number: Some(11), what, spot: None, advice: vec![advice.to_string()] })
+    }
 }

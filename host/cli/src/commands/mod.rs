@@ -7,6 +7,7 @@ mod show;
 mod slots;
 
 use std::ffi::{OsStr, OsString};
+use std::os::unix::ffi::OsStrExt;
 
 use crate::arguments::{Arguments, Grammar};
 use crate::failure::Failure;
@@ -55,38 +56,30 @@ pub fn run(given: &[OsString]) -> Result<Done, Failure> {
     if first == "--version" || first == "-V" {
         return Ok(Done::saying(format!("gelumbrio {}\n", env!("CARGO_PKG_VERSION"))));
     }
-    if is_help(first) {
-        return Ok(Done::saying(help::whole()));
+    let mut options = given.iter().take_while(|argument| *argument != "--");
+    if first == "help" || options.any(|argument| argument == "--help" || argument == "-h") {
+        return help(given.iter().filter(|argument| *argument != "help"));
     }
-    if first == "help" {
-        return match (named(&given[1..]), given.get(1)) {
-            (Some((grammar, _, _)), _) => Ok(Done::saying(help::of(grammar.command))),
-            (None, None) => Ok(Done::saying(help::whole())),
-            (None, Some(unknown)) => Err(no_command(unknown)),
-        };
+    match named(given) {
+        Some((grammar, run, rest)) => run(Arguments::parse(grammar, rest)?),
+        None if first == "sheet" => {
+            Err(Failure::usage("sheet", "sheet new makes a sheet, sheet check looks at one"))
+        }
+        None => Err(no_command(first)),
     }
-    let Some((grammar, run, rest)) = named(given) else {
-        return match first == "sheet" {
-            true if given[1..].iter().any(|argument| is_help(argument)) => {
-                Ok(Done::saying(help::of("sheet new") + "\n" + &help::of("sheet check")))
-            }
-            true => Err(Failure::usage("sheet", "sheet new makes a sheet, sheet check looks at one")),
-            false => Err(no_command(first)),
-        };
-    };
-    let options = rest.iter().take_while(|argument| *argument != "--");
-    if options.into_iter().any(|argument| is_help(argument)) {
-        return Ok(Done::saying(help::of(grammar.command)));
-    }
-    run(Arguments::parse(grammar, rest)?)
+}
+
+/// The help for the command that these arguments begin with, or for all.
+fn help<'a>(given: impl Iterator<Item = &'a OsString>) -> Result<Done, Failure> {
+    let words: Vec<&OsString> = given.take_while(|argument| !argument.as_bytes().starts_with(b"-")).collect();
+    let Some(first) = words.first() else { return Ok(Done::saying(help::whole())) };
+    let two = words.get(1).and_then(|second| help::of(&format!("{} {}", first.display(), second.display())));
+    let told = two.or_else(|| help::of(&first.to_string_lossy()));
+    told.map(Done::saying).ok_or_else(|| no_command(first))
 }
 
 fn no_command(named: &OsStr) -> Failure {
     Failure::usage("", format!("there is no command {}", named.display()))
-}
-
-fn is_help(argument: &OsStr) -> bool {
-    argument == "--help" || argument == "-h"
 }
 
 /// The command with whose name, of one word or two, the arguments begin, and those after it.

@@ -2,14 +2,14 @@
 
 use std::ffi::OsStr;
 
-use gelumbrio::{Clinic, Refusal, Sheet, SlotNumber, MAX_SLOTS};
+use gelumbrio::{Clinic, Refusal, Sheet, Slot, SlotNumber, MAX_SLOTS};
 
 use super::compose::{no_line, size};
 use super::Done;
 use crate::arguments::{number, Arguments, Grammar, Length};
-use crate::check::{state, State};
-use crate::failure::{Failure, Refused};
-use crate::refusals::counted;
+use crate::check::{state, State, MENDING, MOST_CLINICS};
+use crate::failure::Failure;
+use crate::refusals::{composing, counted};
 use crate::sheet_file;
 
 pub const NEW: Grammar = Grammar {
@@ -59,7 +59,10 @@ pub fn new(mut arguments: Arguments) -> Result<Done, Failure> {
     let sheet = set_up(&settings)?;
     let file = arguments.file();
     sheet_file::create(&file, &sheet)?;
-    let listed = (0..sheet.slots()).map(|slot| listed(&sheet, slot, "free"));
+    let listed = settings
+        .iter()
+        .enumerate()
+        .map(|(slot, setting)| listed(&sheet, slot, if setting.clinic == 0 { "nobody's" } else { "free" }));
     Ok(Done::changing(listed.collect()))
 }
 
@@ -72,30 +75,22 @@ fn set_up(settings: &[Setting]) -> Result<Sheet, Failure> {
     });
     set_up.map_err(|refusal| match refusal {
         Refusal::Limits { slot } => out_of_limits(slot, &settings[slot as usize]),
-        _ => Failure::from(Refused {
-            number: Some(refusal.number()),
-            what: format!("{} slots are too many for a sheet", settings.len()),
-            spot: None,
-            advice: vec![format!("A sheet has 1 to {MAX_SLOTS}.")],
-        }),
+        _ => {
+            let what = format!("{} slots are too many for a sheet", settings.len());
+            Failure::numbered(refusal.number(), what).advising(format!("A sheet has 1 to {MAX_SLOTS}."))
+        }
     })
 }
 
 fn out_of_limits(slot: u32, setting: &Setting) -> Failure {
-    let mut refused = match setting.clinic > 65_535 {
-        true => Refused {
-            number: Some(11),
-            what: format!("there is no clinic {}", setting.clinic),
-            spot: None,
-            advice: vec!["Clinics are 1 to 65,535; 0 leaves a slot to nobody.".to_string()],
-        },
-        false => match no_line(setting.measure, setting.indent) {
-            Failure::Refused(refused) => *refused,
-            usage @ Failure::Usage { .. } => return usage,
-        },
+    let (what, advice) = match setting.clinic > MOST_CLINICS {
+        true => (
+            format!("there is no clinic {}", setting.clinic),
+            "Clinics are 1 to 65,535; 0 leaves a slot to nobody.",
+        ),
+        false => no_line(setting.measure, setting.indent),
     };
-    refused.what = format!("slot {slot}: {}", refused.what);
-    Failure::from(refused)
+    Failure::numbered(11, format!("slot {slot}: {what}")).advising(advice)
 }
 
 /// A slot's line in a list.
@@ -110,40 +105,34 @@ pub fn check(mut arguments: Arguments) -> Result<Done, Failure> {
     let file = arguments.file();
     let sheet = sheet_file::read(&file)?;
     let mut said = String::new();
-    let mut advice: Vec<String> = Vec::new();
+    let mut advice = Vec::new();
     for number in 0..sheet.slots() {
         let slot = sheet.slot(SlotNumber(number as u32)).expect("a slot of the sheet");
-        let what = match state(slot) {
-            State::Unassigned => "nobody's".to_string(),
-            State::Free => "free".to_string(),
-            State::InUse => {
-                let (records, lines) = (slot.record_count(), slot.line_count());
-                format!("in use, {}, {}", counted(records, "record"), counted(lines, "line"))
-            }
-            State::Waiting => {
-                format!(
-                    "not in use, but not empty: once taken it has {}",
-                    counted(slot.record_count(), "record")
-                )
-            }
-            State::Stale => {
-                advice.push(format!(
-                    "`gelumbrio edit {} --clinic {} --slot {number} --at 0` composes slot {number} anew.",
-                    file.display(),
-                    slot.clinic().0
-                ));
-                "its lines are not those that the rules give its records".to_string()
-            }
-            State::Damaged(why) => {
-                advice.push(format!("Only a new sheet mends slot {number}, or an older copy of the file."));
-                format!("damaged: {why}")
-            }
-        };
-        said.push_str(&listed(&sheet, number, &what));
+        let state = state(slot);
+        said.push_str(&listed(&sheet, number, &told(&state, slot)));
+        let composing = composing(&file, slot.clinic(), SlotNumber(number as u32));
+        match state {
+            State::Stale => advice.push(format!("`{composing}` composes slot {number} anew.")),
+            State::Damaged(_) => advice.push(format!("Slot {number}: {MENDING}")),
+            _ => {}
+        }
     }
     if advice.is_empty() {
         return Ok(Done::saying(said));
     }
-    let what = format!("{} is not as it should be\n{}", file.display(), said.trim_end());
-    Err(Failure::from(Refused { number: None, what, spot: None, advice }))
+    let failure = Failure::plain(format!("{} is not as it should be\n{}", file.display(), said.trim_end()));
+    Err(advice.into_iter().fold(failure, Failure::advising))
+}
+
+/// What is said of a slot.
+fn told(state: &State, slot: Slot<'_>) -> String {
+    let (records, lines) = (counted(slot.record_count(), "record"), counted(slot.line_count(), "line"));
+    match state {
+        State::Unassigned => "nobody's".to_string(),
+        State::Free => "free".to_string(),
+        State::InUse => format!("in use, {records}, {lines}"),
+        State::Waiting => format!("not in use, but not empty: it holds {records}"),
+        State::Stale => "its lines are not those that the rules give its records".to_string(),
+        State::Damaged(why) => format!("damaged: {why}"),
+    }
 }

@@ -1,17 +1,17 @@
 //! `show`: a slot of a sheet; and how a paragraph is shown, whichever command has it.
 
 use std::fs;
-use std::path::{Path, PathBuf};
+use std::path::PathBuf;
 
 use gelumbrio::{Sheet, SlotNumber};
 
 use super::Done;
 use crate::arguments::{Arguments, Grammar};
 use crate::failure::Failure;
-use crate::files::Staged;
+use crate::files::{identity, Identity, Staged};
 use crate::leaflet::{Element, Leaflet, Reading};
 use crate::paragraph::{groups_of, Paragraph};
-use crate::refusals::{no_leaflet, Call};
+use crate::refusals::{composing, no_leaflet, Call};
 use crate::style::Style;
 use crate::{json, picture, scratch, sheet_file, terminal};
 
@@ -47,11 +47,11 @@ impl Forms {
 
     /// Writes the files that are wanted, and says the rest. All are written before the first is put in place, and none
     /// is put in the place of one that was read.
-    pub fn show(&self, paragraph: &Paragraph, title: &str, read: &[&Path]) -> Result<Done, Failure> {
+    pub fn show(&self, paragraph: &Paragraph, title: &str, read: &[Identity]) -> Result<Done, Failure> {
         let mut staged = Vec::new();
         for (path, picture) in [(&self.svg, picture::svg as Draw), (&self.html, picture::html as Draw)] {
             let Some(path) = path else { continue };
-            if read.iter().any(|read| is_same(read, path)) {
+            if fs::metadata(path).is_ok_and(|old| read.contains(&identity(&old))) {
                 let what = format!("{} was read, and would be lost", path.display());
                 return Err(Failure::plain(what).advising("Name another file for the picture."));
             }
@@ -72,17 +72,11 @@ impl Forms {
 /// Draws a picture of a paragraph, with a title, and with marks or without.
 type Draw = fn(&Paragraph, &str, bool) -> String;
 
-/// Whether two paths name one file.
-fn is_same(left: &Path, right: &Path) -> bool {
-    fs::canonicalize(left).is_ok_and(|left| fs::canonicalize(right).is_ok_and(|right| left == right))
-}
-
 /// Shows a slot.
 pub fn run(mut arguments: Arguments) -> Result<Done, Failure> {
     let forms = Forms::of(&arguments)?;
     let (clinic, slot) = (arguments.clinic()?, arguments.slot()?);
-    let named = arguments.path("leaflet");
-    let leaflet = named.as_ref().map(|path| Leaflet::read(path.as_os_str())).transpose()?;
+    let leaflet = arguments.path("leaflet").map(|path| Leaflet::read(path.as_os_str())).transpose()?;
     let file = arguments.file();
     let sheet = sheet_file::read(&file)?;
     let call = Call { file: &file, sheet: &sheet, clinic, slot };
@@ -92,11 +86,13 @@ pub fn run(mut arguments: Arguments) -> Result<Done, Failure> {
         return Err(call.refused(refusal));
     }
     let (sheet, notes) = composed(call)?;
-    let elements = leaflet.map(|leaflet| elements(&sheet, slot, &leaflet)).transpose()?;
+    let elements = leaflet.as_ref().map(|leaflet| elements(&sheet, slot, leaflet)).transpose()?;
     let paragraph = Paragraph::of(&sheet, clinic, slot, elements.as_deref());
     let paragraph = paragraph.map_err(|refusal| call.refused(refusal))?;
     let title = format!("{}, slot {}", file.display(), slot.0);
-    let read: Vec<&Path> = [Some(file.as_path()), named.as_deref()].into_iter().flatten().collect();
+    let sheet_file = fs::metadata(&file).ok().map(|file| identity(&file));
+    let read: Vec<Identity> =
+        sheet_file.into_iter().chain(leaflet.map(|leaflet| leaflet.identity())).collect();
     Ok(Done { notes, ..forms.show(&paragraph, &title, &read)? })
 }
 
@@ -109,11 +105,9 @@ fn composed(call: Call<'_>) -> Result<(Sheet, Vec<String>), Failure> {
         return Ok((composed, Vec::new()));
     }
     let note = format!(
-        "the lines that slot {0} holds are not those of the rules; these are. \
-         `gelumbrio edit {1} --clinic {2} --slot {0} --at 0` stores them.",
+        "the lines that slot {} holds are not those of the rules; these are. `{}` stores them.",
         slot.0,
-        file.display(),
-        clinic.0
+        composing(file, clinic, slot)
     );
     Ok((composed, vec![note]))
 }

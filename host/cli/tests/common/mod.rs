@@ -4,8 +4,9 @@
 #![allow(dead_code)]
 
 use std::ffi::OsStr;
-use std::fs;
-use std::io::Write;
+use std::fs::{self, Permissions};
+use std::io::{ErrorKind, Write};
+use std::os::unix::fs::PermissionsExt;
 use std::path::{Path, PathBuf};
 use std::process::{Command, Output, Stdio};
 use std::sync::atomic::{AtomicUsize, Ordering};
@@ -90,12 +91,28 @@ pub struct Folder {
 }
 
 impl Folder {
+    /// Open to everybody, whatever the tests' own rights are.
     pub fn new() -> Folder {
         static COUNT: AtomicUsize = AtomicUsize::new(0);
-        let number = COUNT.fetch_add(1, Ordering::Relaxed);
-        let path = std::env::temp_dir().join(format!("gelumbrio-test-{}-{number}", std::process::id()));
-        fs::create_dir(&path).expect("a new folder");
-        Folder { path }
+        loop {
+            let number = COUNT.fetch_add(1, Ordering::Relaxed);
+            let name = format!("gelumbrio-test-{}-{number}", std::process::id());
+            let folder = Folder { path: std::env::temp_dir().join(name) };
+            match fs::create_dir(&folder.path) {
+                Ok(()) => {
+                    folder.open_to(0o755);
+                    return folder;
+                }
+                // Left by tests that were killed.
+                Err(error) if error.kind() == ErrorKind::AlreadyExists => std::mem::forget(folder),
+                Err(error) => panic!("{}: {error}", folder.path.display()),
+            }
+        }
+    }
+
+    /// Sets who may read and write in it.
+    pub fn open_to(&self, mode: u32) {
+        fs::set_permissions(&self.path, Permissions::from_mode(mode)).expect("the folder is ours");
     }
 
     /// With a sheet of two slots, that of clinic 7 taken: 22 characters a line, an indent of 1.
@@ -154,6 +171,7 @@ impl Folder {
 
 impl Drop for Folder {
     fn drop(&mut self) {
+        let _ = fs::set_permissions(&self.path, Permissions::from_mode(0o755));
         let _ = fs::remove_dir_all(&self.path);
     }
 }
