@@ -77,9 +77,10 @@ impl Staged {
             let written = folder(&target).join(name);
             match OpenOptions::new().write(true).create_new(true).mode(mode).open(&written) {
                 Err(error) if error.kind() == ErrorKind::AlreadyExists => {}
-                opened => {
+                Err(error) => return Err(error),
+                Ok(file) => {
                     let named = named.to_path_buf();
-                    return Ok((Staged { named, target, written, is_there: true }, opened?));
+                    return Ok((Staged { named, target, written, is_there: true }, file));
                 }
             }
         }
