@@ -52,8 +52,8 @@ impl Call<'_> {
     /// A refusal by what the sheet is and holds.
     pub fn refused(self, refusal: Refusal) -> Failure {
         let Call { file, sheet, clinic: Clinic(clinic), slot: SlotNumber(slot) } = self;
-        let file = file.display();
-        let listing = format!("`gelumbrio sheet check {file}` lists whose each slot is.");
+        let (file, argument) = (file.display(), quoted(file));
+        let listing = format!("`gelumbrio sheet check {argument}` lists whose each slot is.");
         let (what, advice) = match refusal {
             Refusal::Slot => {
                 let count = counted(sheet.slots() as u32, "slot");
@@ -68,11 +68,11 @@ impl Call<'_> {
             }
             Refusal::NoneFree => (
                 format!("clinic {clinic} has no free slot in {file}"),
-                format!("`gelumbrio give {file} --clinic {clinic} --slot ..` empties one and frees it."),
+                format!("`gelumbrio give {argument} --clinic {clinic} --slot ..` empties one and frees it."),
             ),
             Refusal::NotInUse => (
                 format!("slot {slot} of {file} is not in use"),
-                format!("`gelumbrio take {file} --clinic {clinic}` takes the clinic's lowest free slot."),
+                format!("`gelumbrio take {argument} --clinic {clinic}` takes the clinic's lowest free slot."),
             ),
             Refusal::Damaged => self.damaged(),
             Refusal::PastEnd { count } => (
@@ -109,7 +109,17 @@ impl Call<'_> {
 
 /// The command that composes a slot anew and changes no record of it.
 pub fn composing(file: &Path, clinic: Clinic, slot: SlotNumber) -> String {
-    format!("gelumbrio edit {} --clinic {} --slot {} --at 0", file.display(), clinic.0, slot.0)
+    format!("gelumbrio edit {} --clinic {} --slot {} --at 0", quoted(file), clinic.0, slot.0)
+}
+
+/// A file's name as a shell takes it.
+fn quoted(file: &Path) -> String {
+    let name = file.display().to_string();
+    let is_plain = |character: char| character.is_alphanumeric() || "._/-+=:@%".contains(character);
+    match name.chars().all(is_plain) && !name.starts_with('-') {
+        true => name,
+        false => format!("'{}'", name.replace('\'', r"'\''")),
+    }
 }
 
 /// So many of something.

@@ -87,8 +87,8 @@ fn commands_answer_as_their_calls_do_on_any_words() {
     assert!(accepted > 0 && refused > 0 && sound > 0 && unsound > 0);
 }
 
-/// Whether an edit that changes no record is accepted and leaves the sheet as it is. It is asked where slot 0 is in use
-/// by clinic 7 and the other one as it was set up.
+/// Whether an edit that changes no record is accepted and leaves the sheet as it is. It is asked where slot 0 is in
+/// use by clinic 7 and the other one as it was set up.
 fn is_sound(sheet: &Sheet) -> Option<bool> {
     let words = sheet.words();
     let is_asked = (words[0], words[5]) == (7, 1) && words[SLOT_WORDS..] == ward().words()[SLOT_WORDS..];

@@ -2,6 +2,8 @@
 
 mod common;
 
+use std::fs;
+
 use common::Folder;
 
 /// What is said of a leaflet that cannot be composed in lines of so many characters.
@@ -221,6 +223,11 @@ fn calls_on_a_sheet() {
         assert!(said.contains(&format!("refused with {number}: ")) && said.contains(what), "{said}");
         assert!(said.contains("\n  = "), "{said}");
     }
+    // What is advised can be typed.
+    folder.write("my ward's", &before);
+    let said = folder.run(&["take", "my ward's", "--clinic", "8"]).refused();
+    assert!(said.contains(r"`gelumbrio sheet check 'my ward'\''s'`"), "{said}");
+    fs::remove_file(folder.file("my ward's")).unwrap();
     // 17 comes before all others.
     let foreign = ["edit", "ward", "-", "--at", "9", "--clinic", "9", "--slot", "5"];
     assert!(folder.run_with(&foreign, "（").refused().contains("refused with 17: "));
