@@ -18,19 +18,20 @@ pub enum State {
     Stale,
     /// It is not in use, but not empty either: it was filled before there were takings.
     Waiting,
-    /// Every edit of it is refused with 4. Only a set-up mends it.
+    /// Every edit of it is refused with 4, or would be if it were in use; or it is a clinic's that there cannot be. Only
+    /// a set-up mends it.
     Damaged(String),
 }
 
 /// The highest number of a clinic.
-pub const MOST_CLINICS: u32 = 65_535;
+pub const HIGHEST_CLINIC: u32 = 65_535;
 /// What mends a damaged slot.
 pub const MENDING: &str = "Only a new sheet mends it, or an older copy of the file.";
 
 /// Looks at a slot of a sheet.
 pub fn state(slot: Slot<'_>) -> State {
     let Clinic(clinic) = slot.clinic();
-    if clinic > MOST_CLINICS {
+    if clinic > HIGHEST_CLINIC {
         return State::Damaged(format!("its clinic is {clinic}, and clinics are 0 to 65,535"));
     }
     if let Some(why) = damage(slot) {

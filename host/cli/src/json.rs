@@ -3,7 +3,6 @@
 use std::fmt::Write;
 
 use crate::paragraph::{Group, Paragraph};
-use crate::terminal::kind;
 
 /// Records, places, lines and ruby.
 pub fn json(paragraph: &Paragraph) -> String {
@@ -26,9 +25,7 @@ pub fn json(paragraph: &Paragraph) -> String {
     let lines = paragraph.lines.iter().map(|line| {
         format!(
             "{{\"first_record\": {}, \"end_x\": {}, \"kind\": \"{}\"}}",
-            line.first_record,
-            line.end_x,
-            kind(line.kind)
+            line.first_record, line.end_x, line.kind
         )
     });
     format!(

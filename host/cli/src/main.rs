@@ -12,6 +12,7 @@ mod glyph;
 mod help;
 mod json;
 mod leaflet;
+mod no_leaflet;
 mod paragraph;
 mod picture;
 mod refusals;

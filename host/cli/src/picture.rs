@@ -12,7 +12,6 @@ use crate::characters::printable;
 use crate::glyph::{Drawn, Shape};
 use crate::paragraph::{Group, Paragraph};
 use crate::scratch::USUAL_SIZE;
-use crate::terminal::kind;
 
 /// Serif faces for Japanese, those of free systems first.
 const FONTS: &str = "'Noto Serif CJK JP', 'Noto Serif JP', 'Source Han Serif JP', 'Hiragino Mincho ProN', \
@@ -130,8 +129,7 @@ fn line_marks(
     let (em, small) = (layout.em, layout.em / 4);
     let above = ascent(em);
     put(format!("<text class=\"number\" font-size=\"{}\" x=\"-{em}\" y=\"0\">{number}</text>", em / 2));
-    let (measure, name) = (u64::from(paragraph.measure), kind(line.kind));
-    let x = measure + u64::from(em / 2);
+    let (x, name) = (u64::from(paragraph.measure) + u64::from(em / 2), line.kind);
     put(format!("<text class=\"kind\" font-size=\"{}\" x=\"{x}\" y=\"0\">{name}</text>", em / 2));
     for units in paragraph.units_of(line).windows(2) {
         let (start, end) = (units[0].end, units[1].x);

@@ -5,7 +5,7 @@
 //! right. Ruby characters are as large as others, so ruby stands over where its base starts, and in a row above where
 //! it would run into other ruby.
 
-use gelumbrio::{Kind, Line};
+use gelumbrio::Line;
 
 use crate::characters::{columns, printable, REPLACEMENT};
 use crate::glyph::leading;
@@ -55,20 +55,11 @@ pub fn lines(paragraph: &Paragraph, marks: bool, style: Style) -> String {
         text.push_str(&style.faint(&label));
         text.push_str(base.text.trim_end_matches(' '));
         if marks {
-            text.push_str(&style.faint(&format!("  {}, record {}", kind(line.kind), line.first_record)));
+            text.push_str(&style.faint(&format!("  {}, record {}", line.kind, line.first_record)));
         }
         text.push('\n');
     }
     text
-}
-
-/// What a line's kind is called.
-pub fn kind(kind: Kind) -> &'static str {
-    match kind {
-        Kind::Flush => "flush",
-        Kind::Short => "short",
-        Kind::Final => "final",
-    }
 }
 
 /// A line's characters, and the column in which each stands.

@@ -181,6 +181,7 @@ fn links_and_permissions_stay() {
 fn the_owner_stays_where_the_system_lets_it() {
     let folder = Folder::with_sheet();
     if fs::metadata(&folder.path).unwrap().uid() != 0 {
+        println!("only root can give files away: owners are not tested");
         return;
     }
     chown(folder.file("ward"), Some(65_534), Some(65_533)).unwrap();

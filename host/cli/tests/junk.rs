@@ -2,7 +2,8 @@
 
 mod common;
 
-use common::{ward, Folder, Random, Said};
+use common::{ward, Folder, Said};
+use compare::random::Random;
 use gelumbrio::{Clinic, Sheet, SlotNumber, LINES_AT, PLACES_AT, RECORDS_AT, SLOT_WORDS};
 
 const SHEETS: u32 = 150;
@@ -17,18 +18,19 @@ fn junk(random: &mut Random) -> Sheet {
     let mut words = sheet.into_words();
     for _ in 0..=random.below(2) {
         let at = match random.below(5) {
-            0 => random.below(8),
-            1 => RECORDS_AT + random.below(60),
-            2 => PLACES_AT + random.below(60),
-            3 => LINES_AT + random.below(12),
-            _ => random.below(2 * SLOT_WORDS),
+            0 => random.below(8) as usize,
+            1 => RECORDS_AT + random.below(60) as usize,
+            2 => PLACES_AT + random.below(60) as usize,
+            3 => LINES_AT + random.below(12) as usize,
+            _ => random.below(2 * SLOT_WORDS as u32) as usize,
         };
         words[at] = match random.below(5) {
-            0 => random.below(4) as u32,
-            3 => words[at],
+            // Some sheets stay good.
+            0 => words[at],
             1 => words[at].wrapping_add(1),
-            2 => random.below(300) as u32,
-            _ => random.next() as u32,
+            2 => random.below(4),
+            3 => random.below(300),
+            _ => random.word(),
         };
     }
     Sheet::from_words(words).unwrap()
@@ -46,7 +48,7 @@ fn agrees(folder: &Folder, said: &Said, accepted: bool, left: &Sheet) -> bool {
 #[test]
 fn commands_answer_as_their_calls_do_on_any_words() {
     let folder = Folder::new();
-    let random = &mut Random(17);
+    let random = &mut Random::new(17);
     let (mut accepted, mut refused, mut sound, mut unsound) = (0, 0, 0, 0);
     for _ in 0..SHEETS {
         let sheet = junk(random);

@@ -6,7 +6,8 @@ use std::process::Stdio;
 use std::thread;
 use std::time::Duration;
 
-use common::{command, text, Folder, Random};
+use common::{command, text, Folder};
+use compare::random::Random;
 use gelumbrio::{Clinic, Sheet, SlotNumber};
 
 const PROCESSES: u32 = 8;
@@ -125,12 +126,12 @@ fn a_killed_program_leaves_the_old_sheet_or_the_new_one() {
     };
     // About as long as a program takes: longer after one that was killed too early, shorter after one too late.
     let mut usual = Duration::from_millis(2);
-    let (mut random, mut done) = (Random(1), 0);
+    let (mut random, mut done) = (Random::new(1), 0);
     let mut held = folder.sheet("ward");
     for _ in 0..KILLS {
         let other = usize::from(held == sheets[0]);
         let mut running = import(["a", "b"][other]);
-        thread::sleep(usual * random.below(2_000) as u32 / 1_000);
+        thread::sleep(usual * random.below(2_000) / 1_000);
         let _ = running.kill();
         running.wait().expect("it ends");
         let left = folder.sheet("ward");

@@ -72,6 +72,7 @@
 //! ```
 
 mod leaflet;
+mod lines;
 mod place;
 pub mod raw;
 mod refusal;
@@ -79,12 +80,11 @@ mod sheet;
 mod slot;
 
 pub use leaflet::{Excerpt, Found, LeafletFault};
+pub use lines::{Kind, Line};
 pub use place::TextPlace;
 pub use raw::{Clinic, SlotNumber};
 pub use refusal::Refusal;
-pub use sheet::{
-    Edited, Kind, Line, Sheet, LINES_AT, MAX_SLOTS, PLACES_AT, RECORDS_AT, RECORD_WORDS, SLOT_WORDS,
-};
+pub use sheet::{Edited, Sheet, LINES_AT, MAX_SLOTS, PLACES_AT, RECORDS_AT, RECORD_WORDS, SLOT_WORDS};
 pub use slot::{Record, Slot};
 
 /// The offset of the k-th ruby character from the start of its group, `k` counted from 0.

@@ -1,6 +1,7 @@
 //! A sheet that owns its words (document 01, "The sheet").
 
 use crate::leaflet::LeafletFault;
+use crate::lines::{self, Line};
 use crate::raw::{self, Clinic, SlotNumber};
 use crate::refusal::Refusal;
 use crate::slot::Slot;
@@ -36,30 +37,6 @@ pub struct Edited {
     /// How many of them are composed anew. The first is the line before the one that held the place, or
     /// line 0.
     pub redone: u32,
-}
-
-/// How a line ends.
-#[derive(Debug, Clone, Copy, PartialEq, Eq, Hash)]
-pub enum Kind {
-    /// At the measure.
-    Flush,
-    /// Before it, as nothing in the line could be stretched so far.
-    Short,
-    /// It is the paragraph's last line, which is never stretched.
-    Final,
-}
-
-/// A composed line.
-#[derive(Debug, Clone, PartialEq, Eq)]
-pub struct Line {
-    /// The number of its first record.
-    pub first_record: u32,
-    /// The x at which its last unit ends.
-    pub end_x: u32,
-    /// How it ends.
-    pub kind: Kind,
-    /// The x of each of its records.
-    pub xs: Vec<u32>,
 }
 
 impl Sheet {
@@ -267,39 +244,7 @@ impl Sheet {
     /// Nothing else is judged: every x and end x is handed back as it is stored.
     pub fn lines(&self, caller: Clinic, slot: SlotNumber) -> Result<Vec<Line>, Refusal> {
         let lines = self.read(caller, slot)?;
-        self.typed_lines(lines, slot).ok_or(Refusal::Damaged)
-    }
-
-    fn typed_lines(&self, lines: &[u32], slot: SlotNumber) -> Option<Vec<Line>> {
-        let slot = self.slot(slot)?;
-        let (places, _) = slot.words()[PLACES_AT..LINES_AT].as_chunks::<2>();
-        let places = places.get(..slot.record_count() as usize)?;
-
-        let (lines, _) = lines.as_chunks::<3>();
-        // A line ends where the next one starts, the last at the record count.
-        let starts = lines.iter().map(|&[first, ..]| first as usize);
-        let bounds: Vec<usize> = starts.chain([places.len()]).collect();
-        if bounds[0] != 0 || !bounds.is_sorted_by(|start, end| start < end) {
-            return None;
-        }
-        let typed = lines.iter().zip(bounds.windows(2)).map(|(&[first_record, end_x, kind], bounds)| {
-            let xs = places[bounds[0]..bounds[1]].iter().map(|&[x, _line]| x).collect();
-            let kind = Kind::new(kind)?;
-            let is_last = bounds[1] == places.len();
-            (is_last == (kind == Kind::Final)).then_some(Line { first_record, end_x, kind, xs })
-        });
-        typed.collect()
-    }
-}
-
-impl Kind {
-    fn new(word: u32) -> Option<Kind> {
-        match word {
-            1 => Some(Kind::Flush),
-            2 => Some(Kind::Short),
-            3 => Some(Kind::Final),
-            _ => None,
-        }
+        self.slot(slot).and_then(|slot| lines::typed(slot, lines)).ok_or(Refusal::Damaged)
     }
 }
 

@@ -6,8 +6,9 @@ use super::Done;
 use crate::arguments::{Arguments, Grammar};
 use crate::failure::Failure;
 use crate::leaflet::{Leaflet, Reading};
+use crate::no_leaflet::no_leaflet;
 use crate::paragraph::groups_of;
-use crate::refusals::{counted, no_leaflet, of_change, Call, Change};
+use crate::refusals::{counted, of_change, Call, Change};
 use crate::scratch::{self, USUAL_SIZE};
 use crate::sheet_file::LockedSheet;
 

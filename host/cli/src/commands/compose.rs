@@ -7,8 +7,9 @@ use super::Done;
 use crate::arguments::{Arguments, Grammar, Length};
 use crate::failure::Failure;
 use crate::leaflet::{Leaflet, Reading};
+use crate::no_leaflet::no_leaflet;
 use crate::paragraph::Paragraph;
-use crate::refusals::{no_leaflet, no_size, Change};
+use crate::refusals::{no_size, Change};
 use crate::scratch::{self, CALLER, USUAL_SIZE};
 
 pub const GRAMMAR: Grammar = Grammar {

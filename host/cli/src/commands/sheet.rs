@@ -7,7 +7,7 @@ use gelumbrio::{Clinic, Refusal, Sheet, Slot, SlotNumber, MAX_SLOTS};
 use super::compose::{no_line, size};
 use super::Done;
 use crate::arguments::{number, Arguments, Grammar, Length};
-use crate::check::{state, State, MENDING, MOST_CLINICS};
+use crate::check::{state, State, HIGHEST_CLINIC, MENDING};
 use crate::failure::Failure;
 use crate::refusals::{composing, counted};
 use crate::sheet_file;
@@ -83,7 +83,7 @@ fn set_up(settings: &[Setting]) -> Result<Sheet, Failure> {
 }
 
 fn out_of_limits(slot: u32, setting: &Setting) -> Failure {
-    let (what, advice) = match setting.clinic > MOST_CLINICS {
+    let (what, advice) = match setting.clinic > HIGHEST_CLINIC {
         true => (
             format!("there is no clinic {}", setting.clinic),
             "Clinics are 1 to 65,535; 0 leaves a slot to nobody.",

@@ -10,8 +10,9 @@ use crate::arguments::{Arguments, Grammar};
 use crate::failure::Failure;
 use crate::files::{identity, Identity, Staged};
 use crate::leaflet::{Element, Leaflet, Reading};
+use crate::no_leaflet::no_leaflet;
 use crate::paragraph::{groups_of, Paragraph};
-use crate::refusals::{composing, no_leaflet, Call};
+use crate::refusals::{composing, Call};
 use crate::style::Style;
 use crate::{json, picture, scratch, sheet_file, terminal};
 

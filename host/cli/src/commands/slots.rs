@@ -27,6 +27,7 @@ pub fn take(mut arguments: Arguments) -> Result<Done, Failure> {
     let locked = LockedSheet::open(&file)?;
     let old = locked.read()?;
     let mut sheet = old.clone();
+    // A take names no slot, and no refusal of it does.
     let call = Call { file: &file, sheet: &old, clinic, slot: SlotNumber(0) };
     let slot = sheet.take(clinic).map_err(|refusal| call.refused(refusal))?;
     locked.replace(&sheet)?;

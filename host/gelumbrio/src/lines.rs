@@ -1,0 +1,73 @@
+//! Lines of a slot, as they are stored (document 01, "The sheet").
+
+use std::fmt;
+
+use crate::sheet::{LINES_AT, PLACES_AT};
+use crate::slot::Slot;
+
+/// How a line ends.
+#[derive(Debug, Clone, Copy, PartialEq, Eq, Hash)]
+pub enum Kind {
+    /// At the measure.
+    Flush,
+    /// Before it, as nothing in the line could be stretched so far.
+    Short,
+    /// It is the paragraph's last line, which is never stretched.
+    Final,
+}
+
+/// A composed line.
+#[derive(Debug, Clone, PartialEq, Eq)]
+pub struct Line {
+    /// The number of its first record.
+    pub first_record: u32,
+    /// The x at which its last unit ends.
+    pub end_x: u32,
+    /// How it ends.
+    pub kind: Kind,
+    /// The x of each of its records.
+    pub xs: Vec<u32>,
+}
+
+/// The lines that these line words are of a slot, unless they do not share out its records.
+pub(crate) fn typed(slot: Slot<'_>, lines: &[u32]) -> Option<Vec<Line>> {
+    let (places, _) = slot.words()[PLACES_AT..LINES_AT].as_chunks::<2>();
+    let places = places.get(..slot.record_count() as usize)?;
+
+    let (lines, _) = lines.as_chunks::<3>();
+    // A line ends where the next one starts, the last at the record count.
+    let starts = lines.iter().map(|&[first, ..]| first as usize);
+    let bounds: Vec<usize> = starts.chain([places.len()]).collect();
+    if bounds[0] != 0 || !bounds.is_sorted_by(|start, end| start < end) {
+        return None;
+    }
+    let typed = lines.iter().zip(bounds.windows(2)).map(|(&[first_record, end_x, kind], bounds)| {
+        let xs = places[bounds[0]..bounds[1]].iter().map(|&[x, _line]| x).collect();
+        let kind = Kind::new(kind)?;
+        let is_last = bounds[1] == places.len();
+        (is_last == (kind == Kind::Final)).then_some(Line { first_record, end_x, kind, xs })
+    });
+    typed.collect()
+}
+
+impl Kind {
+    fn new(word: u32) -> Option<Kind> {
+        match word {
+            1 => Some(Kind::Flush),
+            2 => Some(Kind::Short),
+            3 => Some(Kind::Final),
+            _ => None,
+        }
+    }
+}
+
+/// As document 01 calls it.
+impl fmt::Display for Kind {
+    fn fmt(&self, f: &mut fmt::Formatter<'_>) -> fmt::Result {
+        f.write_str(match self {
+            Kind::Flush => "flush",
+            Kind::Short => "short",
+            Kind::Final => "final",
+        })
+    }
+}
