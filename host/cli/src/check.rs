@@ -18,8 +18,8 @@ pub enum State {
     Stale,
     /// It is not in use, but not empty either: it was filled before there were takings.
     Waiting,
-    /// Every edit of it is refused with 4, or would be if it were in use; or it is a clinic's that there cannot be. Only
-    /// a set-up mends it.
+    /// Every edit of it is refused with 4, or would be if it were in use; or it is a clinic's that there cannot be.
+    /// Only a set-up mends it.
     Damaged(String),
 }
 
