@@ -25,7 +25,9 @@ use Rattle.rules.proofs.Lengths.{counts-units, length-linesOf, composed-few}
 use Rattle.rules.proofs.Words.{length-records}
 use Rattle.compose.specs.Paragraph.{size, paragraph, Checked, placeOr}
 use Rattle.compose.specs.Lines.{firsts, broken, composed, Broken}
-use Rattle.compose.specs.Composed.{RecordsJudged, Accepted, Judged, Lined, Started}
+use Rattle.compose.specs.Rows.{Rowed}
+use Rattle.compose.specs.Scan.{Clean, Scanned}
+use Rattle.compose.specs.Composed.{RecordsJudged, RowsJudged, Kept, Started}
 
 -- a place below n names an answer; n itself names none, where answers name places below n
 pub named : (n r : ℕ) (o : Option ℕ) → r ≡ placeOr n o → r < n → o ≡ some r
@@ -114,23 +116,24 @@ module _ (m x : ℕ) {ws : List ℕ} (c : Checked ws) where
   unfolding judged
   judged-0 e = rw (c .sound, c .listed, c .grouped, e)
 
--- a refusal as the contract of `check_records` has it
-pub records-refused : {ws : List ℕ} {number place n p : ℕ} → (number ≡ n) × (place ≡ p) → (n ≡ 0 → ⊥) →
-    ((m x : ℕ) → judged m x (paragraph ws) ≡ says n p) → RecordsJudged ws number place
-records-refused e z h =
-    record { refused = λ q m x. rw (e .0, e .1) (h m x); accepted = λ q. absurd (z (sym (e .0) ∙ q)) }
+-- a refusal and an acceptance, as the contract of `check_records` has them
+module _ {ws ds gs os : List ℕ} {number place : ℕ} where
+  pub rows-refused : {n p : ℕ} → (number ≡ n) × (place ≡ p) → (n ≡ 0 → ⊥) →
+      ((m x : ℕ) → judged m x (paragraph ws) ≡ says n p) → RowsJudged ws ds gs os number place
+  rows-refused e z h =
+      record {
+        records =
+            record { refused = λ q m x. rw (e .0, e .1) (h m x); accepted = λ q. absurd (z (sym (e .0) ∙ q)) };
+        rows = λ q. absurd (z (sym (e .0) ∙ q));
+      }
 
--- a refusal and an acceptance, as the contract of `judge` has them
-pub refusal : (ws : List ℕ) (m x : ℕ) (us gs rs : List ℕ) (n p number place : ℕ) → (number ≡ n) × (place ≡ p) →
-    (n ≡ 0 → ⊥) →
-    judged m x (paragraph ws) ≡ says n p → Judged ws m x us gs rs number place
-refusal ws m x us gs rs n p number place e z h =
-    record { refused = λ q. rw (e .0, e .1) h; accepted = λ q. absurd (z (sym (e .0) ∙ q)) }
+  pub rows-accepted : number ≡ 0 → Checked ws → Rowed ws ds gs os 0 → RowsJudged ws ds gs os number place
+  rows-accepted e c r =
+      record { records = record { refused = λ q. absurd (q e); accepted = λ q. c }; rows = λ q. r }
 
-pub acceptance : (ws : List ℕ) (m x : ℕ) (us gs rs : List ℕ) (number place : ℕ) → number ≡ 0 →
-    Accepted ws m x us gs rs →
-    Judged ws m x us gs rs number place
-acceptance ws m x us gs rs number place e h = record { refused = λ q. absurd (q e); accepted = λ q. h }
+-- a clean paragraph's rows are filled
+pub clean-rows : {ws ds gs os : List ℕ} {b : Bool} → Scanned ws ds gs os b → Clean ws → Rowed ws ds gs os 0
+clean-rows {b = b} s c = elim (tested b) [ inl e ↦ s .rows e | inr e ↦ absurd (s .ill e c) ]
 
 -- there are as many lines as the breaking gives, and no more than records
 pub lines-composed : (ws : List ℕ) (m x : ℕ) → length (composed ws m x) ≡ length (broken ws m x)
@@ -141,22 +144,6 @@ pub lines-within : (ws : List ℕ) (m x : ℕ) → length (broken ws m x) ≤ si
 lines-within ws m x =
     omega (arith, lines-composed ws m x, composed-few m x (paragraph ws), length-records ws 0 (size ws))
 
--- what `judge_and_break` answers where nothing is refused, and where something is
-pub lined : {ws : List ℕ} {m x : ℕ} {us gs rs starts : List ℕ} {count number place : ℕ} → Accepted ws m x us gs rs →
-    Broken ws m x starts count → (number ≡ 0) × (place ≡ count) → Lined ws m x us gs rs starts number place
-lined {ws} {m} {x} a b e =
-    record {
-      answer =
-          judged-0 m x (a .checked) (a .fits)
-          ∙ rw (e .0, e .1, b .count) (ap (says 0) (lines-composed ws m x));
-      accepted = λ q. a;
-      broken = λ q. rw (e .1) b;
-    }
-
-pub refusing : {ws : List ℕ} {m x : ℕ} {us gs rs starts : List ℕ} {number place : ℕ} → (number ≡ 0 → ⊥) →
-    Judged ws m x us gs rs number place → Lined ws m x us gs rs starts number place
-refusing z j = record { answer = j .refused z; accepted = λ q. absurd (z q); broken = λ q. absurd (z q) }
-
 -- the first record of each line, as the breaking writes them
 firsts-start : (m x i : ℕ) (ls : List (Run TextUnit)) (j : ℕ) → j < length ls →
     getD (firsts i ls) j 0 ≡ i + start j (linesOf m x ls)
@@ -166,14 +153,22 @@ firsts-start m x i (l ∷ ls) zero h = omega arith
 firsts-start m x i (l ∷ ls) (suc j) h =
     omega (arith, firsts-start m 0 (i + counts (whole l)) ls j (omega arith))
 
-pub starting : {ws : List ℕ} {m x : ℕ} {us gs rs starts : List ℕ} {number place : ℕ} →
-    Lined ws m x us gs rs starts number place → Started ws m x starts number place
+-- what `check` tells of a paragraph that breaks into lines
+pub started : {ws : List ℕ} {m x : ℕ} {starts : List ℕ} {count number place : ℕ} → Checked ws →
+    noBreaking m x (units (paragraph ws)) ≡ none → Broken ws m x starts count → (number ≡ 0) × (place ≡ count) →
+    Started ws m x starts number place
 unfolding compose
-starting {ws} {m} {x} {starts = starts} {place = place} l =
+started {ws} {m} {x} {starts} {count} {number} {place} c f b e =
     record {
-      answer = l .answer;
+      answer = judged-0 m x c f ∙ rw (e .0, e .1, b .count) (ap (says 0) (lines-composed ws m x));
       first = λ z j h.
-          let b = l .broken z in
-          sym (getD-take place starts j 0 h) ∙ ap (λ s. getD s j 0) (b .first)
+          let i : j < count = rw (e .1) at h in
+          sym (getD-take count starts j 0 i) ∙ ap (λ s. getD s j 0) (b .first)
           ∙ omega (arith, firsts-start m x 0 (broken ws m x) j (omega (arith, b .count)));
     }
+
+-- and of one that is refused
+pub not-started : {ws ds gs os starts : List ℕ} {m x number place : ℕ} → (number ≡ 0 → ⊥) →
+    judged m x (paragraph ws) ≡ says number place →
+    Started ws m x starts number place × (number ≡ 0 → Kept ws ds gs os)
+not-started z e = (record { answer = e; first = λ q. absurd (z q) }, λ q. absurd (z q))

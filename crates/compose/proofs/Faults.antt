@@ -22,7 +22,7 @@ use Rattle.rules.proofs.Words.{length-records}
 use Rattle.compose.specs.Paragraph.{size, paragraph, IsListed, ListedBut, placeOr}
 use Rattle.compose.proofs.Walk.{records-from, records-left}
 
-records-end : (ws : List ℕ) (i : ℕ) → size ws ≤ i → records ws i (size ws - i) ≡ []
+pub records-end : (ws : List ℕ) (i : ℕ) → size ws ≤ i → records ws i (size ws - i) ≡ []
 unfolding records
 records-end ws i h = let e : size ws - i ≡ 0 = omega arith in rw e
 

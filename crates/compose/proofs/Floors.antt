@@ -1,30 +1,16 @@
--- The floors of an amount: they fit, no gap gives more than it has, and where the unit after some gaps starts. Assumes
--- nothing.
+-- The floors of amounts: no gap gives more than it has, and where the unit after some gaps starts. Assumes nothing.
 use mathlib.Core.Path.{_≡_}
-use Prim.Native.Nat.{ℕ, _+_, _*_, _-_, _/_, _^_, _≤_, _<_}
+use Prim.Native.Nat.{ℕ, _+_, _*_, _-_, _/_, _≤_}
 use native.Mathlib.Omega.{arith}
-use native.Mathlib.Nat.{mul-le-mul, mul-le-mul-left, mul-comm, div-le-of-le-mul}
 use Rattle.rules.specs.Gaps.{Gap}
 use Rattle.rules.specs.Adjustment.{Amounts, plus, nothing, adjusted}
-use Rattle.rules.specs.Packed.{Packs}
 use Rattle.rules.proofs.Shares.{share-up, share-cap, none-yet}
-use Rattle.compose.specs.Adjusted.{PartOf, floors, placeAfter, Movable}
-
--- a floor up to some of the gaps is no more than the amount
-pub floor-within : (e s c : ℕ) → s ≤ c → e * s / c ≤ e
-floor-within e s c h = div-le-of-le-mul c (rw (mul-comm c e) (mul-le-mul-left e h))
-
--- and the product before it fits 64 bits
-pub product-fits : (e s : ℕ) → e < 2 ^ 32 → s < 2 ^ 32 → e * s < 2 ^ 64
-product-fits e s h k =
-    let p : e ≤ 4294967295 = omega arith in
-    let q : s ≤ 4294967295 = omega arith in
-    omega (arith, mul-le-mul p q)
-
--- where a unit starts ----------------------------------------------------------------------------------------------
+use Rattle.compose.specs.Adjusted.{floors, placeAfter, placeBy, Placeable}
+use Rattle.compose.specs.declared.adjustment.Rates.{Rates}
+use Rattle.compose.proofs.Rates.{floor-within}
 
 -- before the first gap no floor has risen
-pub place-first : (e : Amounts) (c : Gap) (x : ℕ) → placeAfter x 0 (floors e c nothing) ≡ x
+pub place-first : (e : Amounts) (c : Gap) (x : ℕ) → placeBy e c x nothing ≡ x
 place-first e c x =
     omega (
       arith,
@@ -57,43 +43,55 @@ place-numbers solid d S G p q r s t u v w a b c e f g =
         solid + k + t + u + d + (m + z + o) ≡ solid + d + n + v + w
     linear k x y m n z o h i j l c₁ c₂ c₃ = omega arith
 
+-- a gap gives no more than it has
+abbrev pub Gives : Gap → Type 0
+Gives g = g .shrink₁ + g .shrink₂ ≤ g .space
+
 -- amounts e that the gaps c can take
 module _ (e : Amounts) (c : Gap) (p : e .shrink₁ ≤ c .shrink₁) (q : e .shrink₂ ≤ c .shrink₂) where
   -- gaps s are not shrunk by more than they have
-  floors-given : (s : Gap) → Packs s → floors e c s .shrink₁ + floors e c s .shrink₂ ≤ s .space
+  floors-given : (s : Gap) → Gives s → floors e c s .shrink₁ + floors e c s .shrink₂ ≤ s .space
   floors-given s k =
       omega (
         arith,
-        k .gives,
+        k,
         floor-cap (e .shrink₁) (s .shrink₁) (c .shrink₁) p,
         floor-cap (e .shrink₂) (s .shrink₂) (c .shrink₂) q,
       )
 
   -- one unit more, and the gap g after it
-  pub place-next : (s g : Gap) (solid d : ℕ) → Packs s → Packs g →
-      placeAfter solid (s .space) (floors e c s) + d + adjusted e c s g
-      ≡ placeAfter (solid + d) (plus s g .space) (floors e c (plus s g))
+  pub place-next : (s g : Gap) (solid d : ℕ) → Gives s → Gives g →
+      placeBy e c solid s + d + adjusted e c s g ≡ placeBy e c (solid + d) (plus s g)
   place-next s g solid d k l =
       let a = share-cap (e .shrink₁) (c .shrink₁) (s .shrink₁) (g .shrink₁) p in
       let b = share-cap (e .shrink₂) (c .shrink₂) (s .shrink₂) (g .shrink₂) q in
       place-numbers solid d (s .space) (g .space) _ _ _ _ _ _ _ _ (floors-given s k)
       (share-up (e .shrink₁) (c .shrink₁) (s .shrink₁) (g .shrink₁))
       (share-up (e .shrink₂) (c .shrink₂) (s .shrink₂) (g .shrink₂))
-      (omega (arith, a, b, l .gives))
+      (omega (arith, a, b, l))
       (share-up (e .stretch₁) (c .stretch₁) (s .stretch₁) (g .stretch₁))
       (share-up (e .stretch₂) (c .stretch₂) (s .stretch₂) (g .stretch₂))
 
-  -- gaps s among them, of which the floors can be taken
-  pub floors-movable : (s : Gap) (solid : ℕ) → Packs s → PartOf s c → e .stretch₁ ≤ 1000000 →
-      e .stretch₂ ≤ 1000000 → solid ≤ 40000000 → s .space ≤ 1024000 → Movable solid (s .space) (floors e c s)
-  floors-movable s solid k r m n a b =
-      record {
-        solid-limit = a;
-        space-limit = b;
-        gives = floors-given s k;
-        limit₁ = omega (arith, floor-within (e .stretch₁) (s .stretch₁) (c .stretch₁) (r .stretch₁));
-        limit₂ = omega (arith, floor-within (e .stretch₂) (s .stretch₂) (c .stretch₂) (r .stretch₂));
-      }
+-- where the unit after gaps of this space starts can be told from floors f
+pub record Movable (solid space : ℕ) (f : Amounts) : Type 0 where
+  pub solid-limit : solid ≤ 40000000
+  pub space-limit : space ≤ 1024000
+  pub gives : f .shrink₁ + f .shrink₂ ≤ space
+  pub limit₁ : f .stretch₁ ≤ 1000000
+  pub limit₂ : f .stretch₂ ≤ 1000000
+
+pub movable : {r : Rates} {e : Amounts} {c : Gap} {solid : ℕ} {s : Gap} → Placeable r e c solid s →
+    Movable solid (s .space) (floors e c s)
+movable {r} {e} {c} {solid} {s} p =
+    let b = p .bounds in
+    let t = p .part in
+    record {
+      solid-limit = p .solid-limit;
+      space-limit = p .space-limit;
+      gives = floors-given e c (b .shrink₁) (b .shrink₂) s (p .packs .gives);
+      limit₁ = omega (arith, floor-within (e .stretch₁) (s .stretch₁) (c .stretch₁) (t .stretch₁), b .stretch₁);
+      limit₂ = omega (arith, floor-within (e .stretch₂) (s .stretch₂) (c .stretch₂) (t .stretch₂), b .stretch₂);
+    }
 
 pub place-limit : {solid space : ℕ} {f : Amounts} → Movable solid space f → placeAfter solid space f ≤ 100000000
 place-limit m = omega (arith, m .solid-limit, m .space-limit, m .limit₁, m .limit₂)

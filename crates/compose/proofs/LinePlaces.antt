@@ -1,197 +1,210 @@
--- The places of a line's records, as `place_line` writes them. Assumes nothing.
-use mathlib.Core.Path.{_≡_, refl, ap, sym, _∙_}
-use Prim.Native.Nat.{ℕ, _+_, _*_, _-_, _≤_, _<_}
+-- The places of a line's records, as `place_line` writes them row by row. Assumes nothing.
+use mathlib.Core.Path.{_≡_, refl, ap, sym, subst, _∙_}
+use Prim.Native.Nat.{ℕ, _+_, _*_, _-_, _/_, _≤_, _<_}
 use native.Mathlib.Omega.{arith}
-use native.Mathlib.Nat.{add-assoc}
-use mathlib.Core.List.{List, [], _∷_, _++_, map, append-nil}
-use lib.ListN.{length, getD}
-use Rattle.rules.specs.Groups.{count, counts, advance, baseOffsets}
+use mathlib.Core.Bool.{Bool, true, false}
+use mathlib.Core.List.{List, [], _∷_, _++_}
+use mathlib.Core.Logic.{inl, inr}
+use lib.ListN.{length, getD, length-append}
+use lib.Seq.{paste}
+use Rattle.rules.specs.Basics.{whole}
+use Rattle.rules.specs.Groups.{counts}
 use Rattle.rules.specs.Gaps.{Gap}
-use Rattle.rules.specs.Breaks.{gap}
-use Rattle.rules.specs.Adjustment.{Amounts, plus, nothing, totals, adjusted, placed, ending}
+use Rattle.rules.specs.Adjustment.{Amounts, plus, nothing, placed}
 use Rattle.rules.specs.Sheet.{placesOf}
-use Rattle.rules.specs.Packed.{Packs, AtMost}
-use Rattle.rules.proofs.Packed.{plus-packs, at-most-255}
-use Rattle.rules.proofs.GapWords.{GapBounds}
-use Rattle.compose.specs.Paragraph.{size, unitAt, nextAt}
-use Rattle.compose.specs.Tables.{gapIn}
+use Rattle.rules.specs.Packed.{unpacked, AtMost}
+use Rattle.rules.proofs.Facts.{ordered}
+use Rattle.rules.proofs.Packed.{at-most-255, unpacked-packs}
+use Rattle.rules.proofs.Lengths.{counts-units}
+use Rattle.rules.proofs.Words.{length-records}
+use Rattle.compose.specs.Paragraph.{size, from}
 use Rattle.compose.specs.Lines.{lineAt}
-use Rattle.compose.specs.Adjusted.{PartOf, floors, placeAfter, Movable, unitPlaces, withUnit}
-use Rattle.compose.specs.Adjusted.{UnitToPlace, linePlaces, lineEnd, LineToPlace, LinePlaced}
-use Rattle.compose.proofs.Stretches.{line-last}
-use Rattle.compose.proofs.GapSums.{plus-assoc, nothing-plus, part-of, at-most-more}
-use Rattle.compose.proofs.Sums.{line-first, after-more, gap-row, gap-bounds, advance-limit}
-use Rattle.compose.proofs.Floors.{place-first, place-next, floors-movable, place-limit}
+use Rattle.compose.specs.Rows.{Row, rowsOf, bit, RowIs, Held, held-more}
+use Rattle.compose.specs.Adjusted.{PartOf, placeBy, Placeable, LineToPlace, linePlaces}
+use Rattle.compose.specs.declared.adjustment.Rates.{Rates}
+use Rattle.compose.proofs.GapSums.{plus-nothing, nothing-plus, nothing-yet, at-most-more}
+use Rattle.compose.proofs.Floors.{place-first, movable, place-limit}
+use Rattle.compose.proofs.HeldRows.{rowsBefore, rows-split, length-rowsBefore, length-rowsOf}
+use Rattle.compose.proofs.RowPlaces.{rowPlaces, Parts, parts-more, line-places, line-parts}
 use Rattle.compose.proofs.Pastes.{Pasting, paste-start, paste-length, paste-more}
-use Rattle.rules.proofs.Lengths.{length-placesOf}
-use Rattle.compose.proofs.PlaceWords.{places-append, length-unit}
 
--- the units before record a are placed; the next starts at `at`, after gaps that add up to s. Where they stand solid
--- the units end at `solid`
-pub record LinePlacing (ws places₀ : List ℕ) (i j line x : ℕ) (e : Amounts) (c : Gap) (places : List ℕ)
-    (a at solid : ℕ) (s : Gap) : Type 0 where
-  pub low : i ≤ a
-  pub within : a < j
-  pub ends : a + counts (unitAt ws a ∷ lineAt ws a j .rest) ≡ j
-  pub gaps : plus s (totals (unitAt ws a) (lineAt ws a j .rest)) ≡ c
-  pub packs : Packs s
-  pub limit : AtMost a s
-  pub start-is : at ≡ placeAfter solid (s .space) (floors e c s)
-  pub solid-limit : solid ≤ 1000000 + 128000 * a
+-- a row's words ----------------------------------------------------------------------------------------------------
+
+bit-small : (b : Bool) → bit b ≤ 1
+bit-small true = omega arith
+bit-small false = omega arith
+
+advance-of : {r : Row} {a w o : ℕ} → RowIs r a w o → a / 2 ≡ r .advance
+advance-of {r} h = omega (arith, h .advance, bit-small (r .tied))
+
+-- records from j on
+counts-from : (ws : List ℕ) (j : ℕ) → counts (from ws j) ≡ size ws - j
+unfolding from
+counts-from ws j = counts-units _ ∙ length-records ws j (size ws - j)
+
+-- the line's rows --------------------------------------------------------------------------------------------------
+
+-- the rows before row k are placed, `left` are still to come, and `rest` stand after the line. Where they stand solid
+-- the units before row k end at `solid`; the gaps before it add up to `sums`
+pub record RowsToPlace (ws ds gs os places₀ : List ℕ) (i j line x : ℕ) (e : Amounts) (c : Gap) (places : List ℕ)
+    (k solid sums : ℕ) : Type 0 where
+  pub left : List Row
+  pub rest : List Row
+  pub held : Held ds gs os k (left ++ rest)
+  pub low : i ≤ k
+  pub ends : k + length left ≡ j
+  pub all : j + length rest ≡ size ws
+  pub parts : Parts c (unpacked sums) left
+  pub limit : AtMost k (unpacked sums)
+  pub solid-limit : solid ≤ 1000000 + 128000 * k
   pub pasting :
-      Pasting places₀ (2 * i) (linePlaces ws i j line x e c) (2 * (a - i))
-      (placesOf line (placed e c s at (unitAt ws a) (lineAt ws a j .rest))) places
-  pub end-x : ending e c s at (unitAt ws a) (lineAt ws a j .rest) ≡ lineEnd ws i j x e c
+      Pasting places₀ (2 * i) (linePlaces ws i j line x e c) (2 * (k - i))
+      (placesOf line (rowPlaces e c solid (unpacked sums) left)) places
 
-module _ {ws us gs places₀ : List ℕ} {i j line x : ℕ} {e : Amounts} {c : Gap}
-    (p : LineToPlace ws us gs places₀ i j x e c) where
-  pub line-start : LinePlacing ws places₀ i j line x e c places₀ i x x nothing
-  line-start =
+-- the first of some rows
+record FirstRow (ds gs os : List ℕ) (c : Gap) (k : ℕ) (s : Gap) (left rest : List Row) : Type 0 where
+  pub row : Row
+  pub later : List Row
+  pub is : left ≡ row ∷ later
+  pub here : RowIs row (getD ds k 0) (getD gs k 0) (getD os k 0)
+  pub last : length (later ++ rest) ≡ 0 → row .gap ≡ nothing
+  pub part : PartOf s c
+  pub parts : Parts c (plus s (row .gap)) later
+  pub held : Held ds gs os (k + 1) (later ++ rest)
+
+none-left : {A : Type 0} (ts : List A) → length ts ≡ 0 → ts ≡ []
+none-left [] e = refl
+none-left (t ∷ ts) e = let z : ⊥ = omega arith in absurd z
+
+first-row : {ds gs os : List ℕ} {c : Gap} {k : ℕ} {s : Gap} (left rest : List Row) → 0 < length left →
+    Held ds gs os k (left ++ rest) → Parts c s left → FirstRow ds gs os c k s left rest
+first-row [] rest h a b = let z : ⊥ = omega arith in absurd z
+first-row (row ∷ later) rest h (held-more here last held) (parts-more part parts) =
+    record {
+      row = row;
+      later = later;
+      is = refl;
+      here = here;
+      last = λ z. last (none-left (later ++ rest) z);
+      part = part;
+      parts = parts;
+      held = held;
+    }
+
+module _ {ws ds gs os places₀ : List ℕ} {i j line x : ℕ} {r : Rates} {e : Amounts} {c : Gap}
+    (p : LineToPlace ws ds gs os places₀ i j x r e c) where
+  pub rows-start : RowsToPlace ws ds gs os places₀ i j line x e c places₀ i x 0
+  rows-start =
+      let l = lineAt ws i j in
+      let vs = from ws j in
+      let b = p .line in
+      let g = p .bounds in
       let z : 2 * (i - i) ≡ 0 = omega arith in
+      let xs : rowPlaces e c x (unpacked 0) (rowsBefore (whole l) vs) ≡ placed e c nothing x (l .first) (l .rest) =
+      rw nothing-yet
+      (line-places e c (g .shrink₁) (g .shrink₂) x nothing (l .first) (l .rest) vs (omega arith)
+      ∙ ap (λ y. placed e c nothing y (l .first) (l .rest)) (place-first e c x)) in
       record {
+        left = rowsBefore (whole l) vs;
+        rest = rowsOf vs;
+        held =
+            subst (λ rs. Held ds gs os i rs) (sym (ap (λ us. rowsOf us) (b .joins-up)) ∙ rows-split (whole l) vs)
+            (b .rows);
         low = omega arith;
-        within = p .line .some;
-        ends = rw line-first at (p .line .ends);
-        gaps = nothing-plus _ ∙ sym (p .gaps ∙ rw line-first);
-        packs = record { gives = omega arith; twice = omega arith };
-        limit = omega arith;
-        start-is = sym (place-first e c x);
+        ends = omega (arith, length-rowsBefore (whole l) vs, b .ends);
+        all = omega (arith, length-rowsOf vs, counts-from ws j, b .within);
+        parts = rw nothing-yet (line-parts c nothing (l .first) (l .rest) vs (nothing-plus _ ∙ sym (p .gaps)));
+        limit = rw nothing-yet (omega arith);
         solid-limit = omega (arith, p .start);
-        pasting = rw (z, line-first) (paste-start places₀ (2 * i) _);
-        end-x = rw line-first;
+        pasting = rw (z, xs) (paste-start places₀ (2 * i) (linePlaces ws i j line x e c));
       }
 
-  module _ {places : List ℕ} {a at solid : ℕ} {s : Gap}
-      (q : LinePlacing ws places₀ i j line x e c places a at solid s) where
-    inside : a < size ws
-    inside = omega (arith, q .within, p .line .within)
-
+  module _ {places : List ℕ} {k solid sums : ℕ}
+      (q : RowsToPlace ws ds gs os places₀ i j line x e c places k solid sums) where
     pub turn-length : length places ≡ length places₀
-    turn-length = paste-length (q .pasting) (omega (arith, inside, p .room, q .low))
+    turn-length =
+        paste-length (q .pasting) (omega (arith, p .room, q .low, q .ends, q .all))
 
-    -- the gaps up to here can be shrunk and stretched by their floors
-    movable-here : Movable solid (s .space) (floors e c s)
-    movable-here =
-        let n : a < 256 = omega (arith, inside, p .tabled .checked .few) in
-        floors-movable e c (p .shrink₁) (p .shrink₂) s solid (q .packs) (part-of s _ c (q .gaps)) (p .stretch₁)
-        (p .stretch₂) (omega (arith, q .solid-limit)) (omega (arith, q .limit .space))
+    pub rows-done : j ≤ k → places ≡ paste places₀ (2 * i) (linePlaces ws i j line x e c) (2 * (j - i))
+    rows-done h = let z : 2 * (j - i) ≡ 2 * (k - i) = omega (arith, q .ends) in rw z (q .pasting .is)
 
-    pub turn-unit : UnitToPlace ws us places a at
-    turn-unit =
-        record {
-          checked = p .tabled .checked;
-          units = p .tabled .units;
-          unit = inside;
-          start = rw (q .start-is) (place-limit movable-here);
-          room = omega (arith, p .room, turn-length);
-        }
+    -- row k
+    module _ (h : k < j) where
+      turn : FirstRow ds gs os c k (unpacked sums) (q .left) (q .rest)
+      turn = first-row (q .left) (q .rest) (omega (arith, q .ends)) (q .held) (q .parts)
 
-    -- with the unit's places written, those of the units after it are left
-    unit-pasted : (after left : List ℕ) (k : ℕ) → after ≡ withUnit ws places a line at → k ≡ nextAt ws a →
-        placesOf line (placed e c s at (unitAt ws a) (lineAt ws a j .rest)) ≡ unitPlaces ws a line at ++ left →
-        Pasting places₀ (2 * i) (linePlaces ws i j line x e c) (2 * (k - i)) left after
-    unit-pasted after left k d h z =
-        let u = unitAt ws a in
-        paste-more (unitPlaces ws a line at) left (2 * count u) (2 * a) (2 * (k - i)) (rw z at (q .pasting))
-        (length-placesOf line (map (λ o. at + o) (baseOffsets u)) ∙ ap (λ n. 2 * n) (length-unit at u))
-        (omega (arith, q .low)) (omega (arith, q .low)) (omega (arith, inside, p .room, q .low)) d
+      pub turn-inside : k < 256
+      turn-inside = omega (arith, q .all, p .line .few)
 
-    -- n is the record after the unit
-    module _ {n : ℕ} (l : n ≡ a + getD us (3 * a) 0) where
-      next-is : n ≡ nextAt ws a
-      next-is = l ∙ rw (p .tabled .units a inside .records)
-
-      pub turn-longer : a < n
-      turn-longer = omega (arith, next-is)
-
-      -- the line ends there
-      pub line-done : {after : List ℕ} {d : ℕ} → after ≡ withUnit ws places a line at →
-          d ≡ getD us (3 * a + 2) 0 → j ≤ n → LinePlaced ws places₀ after i j line x e c (at + d)
-      unfolding placed ending counts
-      line-done {after} m d h =
-          let z : lineAt ws a j .rest ≡ [] = line-last ws a j (omega (arith, next-is)) in
-          let k : j ≡ nextAt ws a = omega (arith, rw z at (q .ends), next-is) in
+      pub turn-placeable : Placeable r e c solid (unpacked sums)
+      turn-placeable =
           record {
-            place-words = unit-pasted after [] j m k (rw (z, append-nil)) .is;
-            end-x = rw (d, p .tabled .units a inside .advance) (rw z at (q .end-x));
+            bounds = p .bounds;
+            rates = p .rates;
+            part = turn .part;
+            packs = unpacked-packs sums;
+            solid-limit = omega (arith, q .solid-limit, turn-inside);
+            space-limit = omega (arith, q .limit .space, turn-inside);
           }
 
-      -- or another unit follows, after the gap of row a
-      module _ (h : n < j) {t : Gap} (b : t ≡ plus s (gapIn gs a)) where
-        next-inside : nextAt ws a < size ws
-        next-inside = omega (arith, p .line .within, next-is)
+      pub turn-place : placeBy e c solid (unpacked sums) + getD os k 0 ≤ 100256000
+      turn-place =
+          omega (arith, place-limit (movable turn-placeable), turn .here .offset, turn .here .offset-limit)
 
-        gap-here : gapIn gs a ≡ gap (unitAt ws a) (unitAt ws (nextAt ws a))
-        gap-here = gap-row (p .tabled) a inside next-inside
+      pub turn-room : 2 * k + 2 ≤ length places
+      turn-room = omega (arith, turn-length, p .room, q .all)
 
-        bounds-here : GapBounds (gapIn gs a)
-        bounds-here = gap-bounds (p .tabled) a inside next-inside
+      pub turn-solid : solid + getD ds k 0 / 2 ≤ 1000000 + 128000 * (k + 1)
+      turn-solid = omega (arith, q .solid-limit, advance-of (turn .here), turn .here .advance-limit)
 
-        rest-here : lineAt ws a j .rest ≡ unitAt ws (nextAt ws a) ∷ lineAt ws (nextAt ws a) j .rest
-        rest-here = after-more ws a j (omega (arith, next-is)) (p .line .within)
+      gap-here : unpacked (getD gs k 0) ≡ turn .row .gap
+      gap-here = turn .here .gap
 
-        gaps-here : plus t (totals (unitAt ws (nextAt ws a)) (lineAt ws (nextAt ws a) j .rest)) ≡ c
-        unfolding totals
-        gaps-here =
-            let u = totals (unitAt ws (nextAt ws a)) (lineAt ws (nextAt ws a) j .rest) in
-            ap (λ v. plus v u) b ∙ plus-assoc s (gapIn gs a) u
-            ∙ ap (λ v. plus s (plus v u)) gap-here ∙ (rw rest-here at (q .gaps))
+      turn-limit : AtMost (k + 1) (plus (unpacked sums) (unpacked (getD gs k 0)))
+      turn-limit = rw gap-here (at-most-more (q .limit) (turn .here .gap-limit) (omega arith))
 
-        packs-here : Packs t
-        packs-here = rw b (plus-packs s (gapIn gs a) (q .packs) (bounds-here .packs))
+      -- after the paragraph's last row, which may be row 255, there is no gap
+      pub turn-sums : AtMost 255 (plus (unpacked sums) (unpacked (getD gs k 0)))
+      turn-sums =
+          elim (ordered (k + 1) 256) [
+            | inl g ↦ at-most-255 turn-limit (omega arith)
+            | inr g ↦
+                let t = turn in
+                let n : length (t .later ++ q .rest) ≡ 0 =
+                omega (arith, length-append (t .later) (q .rest), q .ends, q .all, ap length (t .is), p .line .few) in
+                let z : plus (unpacked sums) (unpacked (getD gs k 0)) ≡ unpacked sums =
+                ap (λ g. plus (unpacked sums) g) (gap-here ∙ t .last n) ∙ plus-nothing (unpacked sums) in
+                rw z (at-most-255 (q .limit) (omega (arith, turn-inside)))
+          ]
 
-        limit-here : AtMost n t
-        limit-here = rw b (at-most-more (q .limit) (bounds-here .at-most) turn-longer)
-
-        pub turn-sums : AtMost 255 (plus s (gapIn gs a))
-        turn-sums = rw b at (at-most-255 limit-here (omega (arith, next-inside, next-is, p .tabled .checked .few)))
-
-        pub turn-part : PartOf t c
-        turn-part = part-of t _ c gaps-here
-
-        module _ {d : ℕ} (y : d ≡ getD us (3 * a + 2) 0) where
-          solid-here : solid + d ≤ 1000000 + 128000 * n
-          solid-here = omega (arith, q .solid-limit, advance-limit (p .tabled) a inside, turn-longer)
-
-          pub turn-movable : Movable (solid + d) (t .space) (floors e c t)
-          turn-movable =
-              let m : n < 256 = omega (arith, next-inside, next-is, p .tabled .checked .few) in
-              floors-movable e c (p .shrink₁) (p .shrink₂) t (solid + d) packs-here turn-part (p .stretch₁)
-              (p .stretch₂) (omega (arith, solid-here)) (omega (arith, limit-here .space))
-
-          pub line-more : {places₁ : List ℕ} {k : ℕ} → places₁ ≡ withUnit ws places a line at →
-              k ≡ placeAfter (solid + d) (t .space) (floors e c t) →
-              LinePlacing ws places₀ i j line x e c places₁ n k (solid + d) t
-          unfolding placed ending counts
-          line-more {places₁} {k} m z =
-              let u = unitAt ws a in
-              let v = unitAt ws (nextAt ws a) in
-              let vs = lineAt ws (nextAt ws a) j .rest in
-              let x₁ = at + advance u + adjusted e c s (gap u v) in
-              let sums : plus s (gap u v) ≡ t = sym (b ∙ ap (plus s) gap-here) in
-              let wide : advance u ≡ d = sym (y ∙ p .tabled .units a inside .advance) in
-              let before : x₁ ≡ placeAfter solid (s .space) (floors e c s) + d + adjusted e c s (gapIn gs a) =
-              λ t. q .start-is t + wide t + adjusted e c s (sym gap-here t) in
-              let after : placeAfter (solid + d) (plus s (gapIn gs a) .space) (floors e c (plus s (gapIn gs a))) ≡ k =
-              ap (λ v. placeAfter (solid + d) (v .space) (floors e c v)) (sym b) ∙ sym z in
-              let moved : x₁ ≡ k =
-              before
-              ∙ place-next e c (p .shrink₁) (p .shrink₂) s (gapIn gs a) solid d (q .packs) (bounds-here .packs)
-              ∙ after in
-              let onward : ending e c (plus s (gap u v)) x₁ v vs ≡ lineEnd ws i j x e c =
-              rw rest-here at (q .end-x) in
-              record {
-                low = omega (arith, q .low);
-                within = h;
-                ends = rw next-is (add-assoc a (count u) (counts (v ∷ vs)) ∙ (rw rest-here at (q .ends)));
-                gaps = rw next-is gaps-here;
-                packs = packs-here;
-                limit = limit-here;
-                start-is = z;
-                solid-limit = solid-here;
-                pasting =
-                    rw next-is
-                    (unit-pasted places₁ (placesOf line (placed e c t k v vs)) (nextAt ws a) m refl
-                    (rw (rest-here, places-append, sums, moved)));
-                end-x = rw next-is (rw (sums, moved) at onward);
-              }
+      pub rows-more : {places₁ : List ℕ} {sums₁ : ℕ} (x₁ : ℕ) → x₁ ≡ placeBy e c solid (unpacked sums) →
+          unpacked sums₁ ≡ plus (unpacked sums) (unpacked (getD gs k 0)) →
+          places₁ ≡ paste places (2 * k) ((x₁ + getD os k 0) ∷ line ∷ []) 2 →
+          RowsToPlace ws ds gs os places₀ i j line x e c places₁ (k + 1) (solid + getD ds k 0 / 2) sums₁
+      unfolding rowPlaces placesOf
+      rows-more {places₁} {sums₁} x₁ a b d =
+          let t = turn in
+          let u : unpacked sums₁ ≡ plus (unpacked sums) (t .row .gap) =
+          b ∙ ap (λ g. plus (unpacked sums) g) gap-here in
+          let w : solid + getD ds k 0 / 2 ≡ solid + t .row .advance = ap (λ n. solid + n) (advance-of (t .here)) in
+          let xs : rowPlaces e c (solid + getD ds k 0 / 2) (unpacked sums₁) (t .later)
+          ≡ rowPlaces e c (solid + t .row .advance) (plus (unpacked sums) (t .row .gap)) (t .later) =
+          λ n. rowPlaces e c (w n) (u n) (t .later) in
+          let x₂ : x₁ + getD os k 0 ≡ placeBy e c solid (unpacked sums) + t .row .offset =
+          λ n. a n + t .here .offset n in
+          record {
+            left = t .later;
+            rest = q .rest;
+            held = t .held;
+            low = omega (arith, q .low);
+            ends = omega (arith, q .ends, ap length (t .is));
+            all = q .all;
+            parts = rw u (t .parts);
+            limit = rw b turn-limit;
+            solid-limit = turn-solid;
+            pasting =
+                paste-more {m = 2 * (k - i)} ((x₁ + getD os k 0) ∷ line ∷ [])
+                (placesOf line (rowPlaces e c (solid + getD ds k 0 / 2) (unpacked sums₁) (t .later)))
+                2 (2 * k) (2 * (k + 1 - i)) (rw (xs, x₂) (rw (t .is) at (q .pasting))) refl
+                (omega (arith, q .low)) (omega (arith, q .low)) (omega (arith, p .room, q .low, q .all)) d;
+          }

@@ -2,9 +2,8 @@
 --
 --   fitting      at most 256 records, a measure and an indent within their limits
 --   records judged    the answer 8, 12 or 9 with its place, in any measure; or 0, and the records are checked
---   filled       the tables are those of the paragraph
---   judged       the answer 10 with its place; or 0, and the tables are filled
---   lined        the answer; where it is 0, the tables are filled and the lines broken
+--   rows judged  the same; where it is 0, the rows are filled
+--   kept         what a check leaves of a paragraph that it lets pass: its rows
 --   started      the answer; where it is 0, the first record of each line is told
 --   composed     the answer; where it is 0, the place words and line words stand at the front of what stood there
 --
@@ -12,15 +11,12 @@
 use mathlib.Core.Path.{_≡_}
 use Prim.Native.Nat.{ℕ, _≤_, _<_}
 use mathlib.Core.List.{List}
-use mathlib.Core.Option.{none}
 use lib.ListN.{getD}
-use Rattle.rules.specs.Groups.{units}
-use Rattle.rules.specs.Breaks.{noBreaking}
 use Rattle.rules.specs.Refusals.{says, judged}
 use Rattle.rules.specs.Redone.{start}
 use Rattle.compose.specs.Paragraph.{size, paragraph, Checked}
-use Rattle.compose.specs.Tables.{UnitTable, GapTable, RunTable}
-use Rattle.compose.specs.Lines.{composed, Broken, Written}
+use Rattle.compose.specs.Rows.{Rowed}
+use Rattle.compose.specs.Lines.{composed, Written}
 
 pub record Fitting (ws : List ℕ) (m x : ℕ) : Type 0 where
   pub few : size ws ≤ 256
@@ -31,24 +27,13 @@ pub record RecordsJudged (ws : List ℕ) (number place : ℕ) : Type 0 where
   pub refused : (number ≡ 0 → ⊥) → (m x : ℕ) → judged m x (paragraph ws) ≡ says number place
   pub accepted : number ≡ 0 → Checked ws
 
-pub record Filled (ws us gs rs : List ℕ) : Type 0 where
-  pub units : UnitTable ws us
-  pub gaps : GapTable ws gs
-  pub runs : RunTable ws rs
+pub record RowsJudged (ws ds gs os : List ℕ) (number place : ℕ) : Type 0 where
+  pub records : RecordsJudged ws number place
+  pub rows : number ≡ 0 → Rowed ws ds gs os 0
 
-pub record Accepted (ws : List ℕ) (m x : ℕ) (us gs rs : List ℕ) : Type 0 where
+pub record Kept (ws ds gs os : List ℕ) : Type 0 where
   pub checked : Checked ws
-  pub fits : noBreaking m x (units (paragraph ws)) ≡ none
-  pub filled : Filled ws us gs rs
-
-pub record Judged (ws : List ℕ) (m x : ℕ) (us gs rs : List ℕ) (number place : ℕ) : Type 0 where
-  pub refused : (number ≡ 0 → ⊥) → judged m x (paragraph ws) ≡ says number place
-  pub accepted : number ≡ 0 → Accepted ws m x us gs rs
-
-pub record Lined (ws : List ℕ) (m x : ℕ) (us gs rs starts : List ℕ) (number place : ℕ) : Type 0 where
-  pub answer : judged m x (paragraph ws) ≡ says number place
-  pub accepted : number ≡ 0 → Accepted ws m x us gs rs
-  pub broken : number ≡ 0 → Broken ws m x starts place
+  pub rows : Rowed ws ds gs os 0
 
 pub record Started (ws : List ℕ) (m x : ℕ) (starts : List ℕ) (number place : ℕ) : Type 0 where
   pub answer : judged m x (paragraph ws) ≡ says number place

@@ -16,7 +16,6 @@ use Rattle.rules.specs.Breaks.{runs, breaking, noBreaking}
 use Rattle.rules.specs.Adjustment.{Line, compose}
 use Rattle.rules.specs.Sheet.{placeWords, lineWords}
 use Rattle.compose.specs.Paragraph.{size, paragraph, from, unitAt, nextAt, Checked}
-use Rattle.compose.specs.Tables.{UnitTable, GapTable}
 
 unfoldable pub firsts : ℕ → List (Run TextUnit) → List ℕ
 firsts i [] = []
@@ -42,22 +41,6 @@ composed ws m x = compose m x (units (paragraph ws))
 pub record Broken (ws : List ℕ) (m x : ℕ) (starts : List ℕ) (lines : ℕ) : Type 0 where
   pub count : lines ≡ length (broken ws m x)
   pub first : take lines starts ≡ firsts 0 (broken ws m x)
-
--- the tables of a checked paragraph
-pub record Tabled (ws us gs : List ℕ) : Type 0 where
-  pub checked : Checked ws
-  pub units : UnitTable ws us
-  pub gaps : GapTable ws gs
-
--- a paragraph that has a breaking, broken into lines, with room for its places and lines
-pub record Composable (ws us gs starts places lines : List ℕ) (count m x : ℕ) : Type 0 where
-  pub tabled : Tabled ws us gs
-  pub broken : Broken ws m x starts count
-  pub fits : noBreaking m x (units (paragraph ws)) ≡ none
-  pub indent : x ≤ 1000000
-  pub measure : m ≤ 1000000
-  pub place-room : 2 * size ws ≤ length places
-  pub line-room : 3 * count ≤ length lines
 
 -- the place words and line words of the composed lines, at the front of what stood there
 pub record Written (ws places₀ lines₀ places lines : List ℕ) (count m x : ℕ) : Type 0 where

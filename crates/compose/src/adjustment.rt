@@ -1,23 +1,15 @@
-// The adjustment of a line: what its units and gaps add up to, the amounts of its stages, and a gap's part of them.
+// The adjustment of a line: the amounts of its stages, and what of them the gaps up to one have taken.
 ghost use mathlib.Core.Path.{_≡_};
 ghost use mathlib.Core.Bool.{cond};
-ghost use Prim.Native.Nat.{_+_, _*_, _-_, _/_, _^_, _≤_, _<_, min};
-ghost use lib.ListN.{getD};
+ghost use Prim.Native.Nat.{_*_, _-_, _/_, _≤_, min};
 ghost use Rattle.rules.specs.Adjustment.{amounts, kindOf};
 ghost use Rattle.rules.specs.Values.{gapFrom};
-ghost use Rattle.compose.specs.Lines.{lineAt};
-ghost use Rattle.compose.specs.Adjusted.{amountsFrom, LineToSum, SumsOf, PartOf, floors};
-ghost use Rattle.compose.specs.Adjusted.{placeAfter, Movable};
+ghost use Rattle.rules.specs.Packed.{unpacked};
+ghost use Rattle.compose.specs.Adjusted.{amountsFrom, rateOf, RateBounds, RatesOf, PartOf, floors};
+ghost use Rattle.compose.specs.Adjusted.{placeBy, Placeable};
 use rules::Gap;
-use rules::added;
 use rules::over;
 use rules::unpack;
-
-// What a line's units and gaps add up to.
-pub(crate) struct Sums {
-    pub advances: u32,
-    pub gaps: Gap,
-}
 
 // A number for each stage: the amounts of a line, or what of them the gaps up to one have taken.
 pub(crate) struct Stages {
@@ -27,67 +19,16 @@ pub(crate) struct Stages {
     pub stretch2: u32,
 }
 
-// A word as a record's number.
-pub(crate) fn wide(n: u32) -> usize
-    ensures { λ r. ⌜ (r ≡ n) × (r < 2 ^ 32) ⌝ }
-{
-    n as usize
+// What each unit of capacity takes of a line's amounts, in parts of 2^43.
+pub(crate) struct Rates {
+    pub shrink1: u64,
+    pub shrink2: u64,
+    pub stretch1: u64,
+    pub stretch2: u64,
 }
 
-// The record after the unit that starts with record `a`, by the unit table.
-pub(crate) fn unit_end(units: &[u32; 768], a: usize) -> usize
-    requires { ⌜ a < 256 ⌝ }
-    ensures { λ r. ⌜ r ≡ a + getD (now (units .entry)) (3 * a) 0 ⌝ }
-{
-    a + wide(units[3 * a])
-}
-
-pub(crate) fn unit_advance(units: &[u32; 768], a: usize) -> u32
-    requires { ⌜ a < 256 ⌝ }
-    ensures { λ r. ⌜ r ≡ getD (now (units .entry)) (3 * a + 2) 0 ⌝ }
-{
-    units[3 * a + 2]
-}
-
-// Row `a` of the gap table.
-pub(crate) fn gap_at(gaps: &[u64; 256], a: usize) -> u64
-    requires { ⌜ a < 256 ⌝ }
-    ensures { λ w. ⌜ w ≡ getD (now (gaps .entry)) a 0 ⌝ }
-{
-    gaps[a]
-}
-
-// The sums of the line of the records from `i` up to `j`.
-pub(crate) fn line_sums(
-    ws: &[u32],
-    units: &[u32; 768],
-    gaps: &[u64; 256],
-    i: usize,
-    j: usize,
-) -> Sums
-    requires { ⌜ LineToSum (now ws) (now units) (now gaps) i j ⌝ }
-    ensures { λ r. ⌜ SumsOf (lineAt (now (ws .entry)) i j) r ⌝ }
-{
-    let mut advances = unit_advance(units, i);
-    let mut total: u64 = 0;
-    let mut last = i;
-    let mut next = unit_end(units, i);
-    // by records and not by units: no turn waits for a unit's end to be read
-    let mut k = i + 1;
-    while k < j {
-        if k == next {
-            total = added(total, gap_at(gaps, last));
-            advances += unit_advance(units, k);
-            last = k;
-            next = unit_end(units, k);
-        }
-        k += 1;
-    }
-    Sums {
-        advances: advances,
-        gaps: unpack(total),
-    }
-}
+// One part, 2^43.
+const PART: u64 = 8796093022208;
 
 fn smaller(a: u32, b: u32) -> u32
     ensures { λ r. ⌜ r ≡ min a b ⌝ }
@@ -135,37 +76,62 @@ pub(crate) fn line_kind(last: bool, e: Stages, c: Gap) -> u32
     }
 }
 
-// floor(e·s/c), and 0 where c is 0. The product needs 64 bits.
-fn shared(e: u32, s: u32, c: u32) -> u32
-    requires { ⌜ s ≤ c ⌝ }
+// The rate of an amount `e` over a capacity `c`. With it a share needs no division of its own.
+fn rate(e: u32, c: u32) -> u64
+    requires { ⌜ e ≤ 1048575 ⌝ }
+    ensures { λ r. ⌜ r ≡ rateOf e c ⌝ }
+{
+    // most stages of a line take nothing
+    if e == 0 {
+        return 1;
+    }
+    if c == 0 {
+        return 1;
+    }
+    (e as u64) * PART / (c as u64) + 1
+}
+
+// The rates of a line's amounts over what its gaps add up to.
+pub(crate) fn line_rates(e: Stages, c: Gap) -> Rates
+    requires { ⌜ RateBounds (amountsFrom e) (gapFrom c) ⌝ }
+    ensures { λ r. ⌜ RatesOf r (amountsFrom e) (gapFrom c) ⌝ }
+{
+    Rates {
+        shrink1: rate(e.shrink1, c.shrink1),
+        shrink2: rate(e.shrink2, c.shrink2),
+        stretch1: rate(e.stretch1, c.stretch1),
+        stretch2: rate(e.stretch2, c.stretch2),
+    }
+}
+
+// floor(e·s/c), and 0 where c is 0, by the rate.
+fn shared(rate: u64, e: u32, s: u32, c: u32) -> u32
+    requires { ⌜ (rate ≡ rateOf e c) × (e ≤ 1048575) × (s ≤ c) × (c ≤ 1048576) ⌝ }
     ensures { λ r. ⌜ r ≡ e * s / c ⌝ }
 {
-    if e == 0 {
-        return 0;
-    }
-    if s == 0 {
-        return 0;
-    }
-    ((e as u64) * (s as u64) / (c as u64)) as u32
+    (rate * (s as u64) / PART) as u32
 }
 
 // What of the amounts `e` the gaps that add up to `s` have taken, of those that add up to `c`.
-pub(crate) fn floors_at(e: Stages, c: Gap, s: Gap) -> Stages
+fn floors_at(rates: Rates, e: Stages, c: Gap, s: Gap) -> Stages
+    requires { ⌜ RateBounds (amountsFrom e) (gapFrom c) × RatesOf rates (amountsFrom e) (gapFrom c) ⌝ }
     requires { ⌜ PartOf (gapFrom s) (gapFrom c) ⌝ }
     ensures { λ r. ⌜ amountsFrom r ≡ floors (amountsFrom e) (gapFrom c) (gapFrom s) ⌝ }
 {
     Stages {
-        shrink1: shared(e.shrink1, s.shrink1, c.shrink1),
-        shrink2: shared(e.shrink2, s.shrink2, c.shrink2),
-        stretch1: shared(e.stretch1, s.stretch1, c.stretch1),
-        stretch2: shared(e.stretch2, s.stretch2, c.stretch2),
+        shrink1: shared(rates.shrink1, e.shrink1, s.shrink1, c.shrink1),
+        shrink2: shared(rates.shrink2, e.shrink2, s.shrink2, c.shrink2),
+        stretch1: shared(rates.stretch1, e.stretch1, s.stretch1, c.stretch1),
+        stretch2: shared(rates.stretch2, e.stretch2, s.stretch2, c.stretch2),
     }
 }
 
-// Where the unit after gaps of this space starts, by the floors up to them.
-pub(crate) fn place_after(solid: u32, space: u32, f: Stages) -> u32
-    requires { ⌜ Movable solid space (amountsFrom f) ⌝ }
-    ensures { λ r. ⌜ r ≡ placeAfter solid space (amountsFrom f) ⌝ }
+// Where the unit after units that end at `solid`, where they stand solid, and gaps that add up to `sums` starts.
+pub(crate) fn place_at(rates: Rates, e: Stages, c: Gap, solid: u32, sums: u64) -> u32
+    requires { ⌜ Placeable rates (amountsFrom e) (gapFrom c) solid (unpacked sums) ⌝ }
+    ensures { λ r. ⌜ r ≡ placeBy (amountsFrom e) (gapFrom c) solid (unpacked sums) ⌝ }
 {
-    solid + (space - f.shrink1 - f.shrink2) + f.stretch1 + f.stretch2
+    let s = unpack(sums);
+    let f = floors_at(rates, e, c, s);
+    solid + (s.space - f.shrink1 - f.shrink2) + f.stretch1 + f.stretch2
 }

@@ -1,68 +1,78 @@
-// Answer 10, and the breaking.
+// Answer 10, and the breaking: from the left, line by line, with each line's sums.
 ghost use mathlib.Core.Path.{_≡_};
-ghost use mathlib.Core.Bool.{true};
-ghost use Prim.Native.Nat.{_≤_};
-ghost use Rattle.rules.specs.Groups.{units};
-ghost use Rattle.rules.specs.Breaks.{noBreaking};
-ghost use Rattle.compose.specs.Paragraph.{size, paragraph, placeOr, Checked};
-ghost use Rattle.compose.specs.Tables.{RunTable, AllNarrow};
-ghost use Rattle.compose.specs.Lines.{Broken};
+ghost use Rattle.compose.specs.LineFrom.{LineDue, LineFrom, ToBreak, BrokenTo};
+use rules::added;
+use rules::least_of;
 
-// Whether no row of the run table is too wide: then no run is.
-fn all_narrow(ws: &[u32], runs: &[u32; 768], m: u32, x: u32) -> bool
-    requires { ⌜ size (now ws) ≤ 256 ⌝ }
-    ensures { λ b. ⌜ (b ≡ true → AllNarrow (now (ws .entry)) (now (runs .entry)) m x) ⌝ }
-{
-    if m < x {
-        return false;
-    }
-    if m - x < runs[0] {
-        return false;
-    }
-    let n = ws.len() / 6;
-    let mut i = 0;
-    while i < n {
-        if m < runs[3 * i] {
-            return false;
-        }
-        i += 1;
-    }
-    true
+// A line that starts with some record: the record after it, where its units would end if they stood solid, and what its
+// gaps add up to, in one word. Where no line fits, `end` is its first record.
+pub(crate) struct LineSums {
+    pub end: usize,
+    pub solid: u32,
+    pub gaps: u64,
 }
 
-// The first record of the first run that is too wide, or how many records there are. The first run starts at `x`.
-pub(crate) fn first_wide_run(ws: &[u32], runs: &[u32; 768], m: u32, x: u32) -> usize
-    requires { ⌜ Checked (now ws) × RunTable (now ws) (now runs) × (x ≤ 1000000) ⌝ }
-    ensures { λ r. ⌜ r ≡ placeOr (size (now (ws .entry))) (noBreaking m x (units (paragraph (now (ws .entry))))) ⌝ }
-{
-    let n = ws.len() / 6;
-    // most often all fit, which the rows in order tell sooner than one run after the other
-    if all_narrow(ws, runs, m, x) {
-        return n;
-    }
-    let mut i = 0;
-    let mut start = x;
-    while i < n {
-        let a = 3 * i;
-        if m < start + runs[a] {
-            return i;
-        }
-        i += runs[a + 1] as usize;
-        start = 0;
-    }
-    n
+// How many lines there are, and how many records; or the record from which on no line fits, and how many lines stand
+// before it.
+pub(crate) struct Stop {
+    pub lines: usize,
+    pub place: usize,
 }
 
-// Writes the first record of each line, and says how many lines there are. Line 0 starts at `x`.
+// The longest line that fits the measure `m` and starts with record `i`, at `x`. The search goes from record to record
+// and ends as soon as the measure is passed.
+pub(crate) fn longest_line(
+    ws: &[u32],
+    advances: &[u32; 256],
+    gaps: &[u64; 256],
+    offsets: &[u32; 256],
+    i: usize,
+    m: u32,
+    x: u32,
+) -> LineSums
+    requires { ⌜ LineDue (now ws) (now advances) (now gaps) (now offsets) i m x ⌝ }
+    ensures { λ r. ⌜ LineFrom (now (ws .entry)) m x i r ⌝ }
+{
+    let n = ws.len() / 6;
+    let mut line = LineSums {
+        end: i,
+        solid: x,
+        gaps: 0,
+    };
+    let mut solid = x;
+    let mut total: u64 = 0;
+    let mut k = i;
+    while k < n {
+        let word = advances[k];
+        solid += word / 2;
+        if m < solid + least_of(total) {
+            return line;
+        }
+        if word % 2 == 0 {
+            line = LineSums {
+                end: k + 1,
+                solid: solid,
+                gaps: total,
+            };
+        }
+        total = added(total, gaps[k]);
+        k += 1;
+    }
+    line
+}
+
+// Writes the first record of each line. Line 0 starts at `x`.
 pub(crate) fn break_lines(
     ws: &[u32],
-    runs: &[u32; 768],
+    advances: &[u32; 256],
+    gaps: &[u64; 256],
+    offsets: &[u32; 256],
     m: u32,
     x: u32,
     starts: &mut [u32; 256],
-) -> usize
-    requires { ⌜ Checked (now ws) × RunTable (now ws) (now runs) × (x ≤ 1000000) × (m ≤ 1000000) ⌝ }
-    ensures { λ r. ⌜ Broken (now (ws .entry)) m x (now (starts .exit)) r ⌝ }
+) -> Stop
+    requires { ⌜ ToBreak (now ws) (now advances) (now gaps) (now offsets) m x ⌝ }
+    ensures { λ r. ⌜ BrokenTo (now (ws .entry)) m x (now (starts .exit)) r ⌝ }
 {
     let n = ws.len() / 6;
     // lent as a slice, so that the proof knows its length
@@ -72,22 +82,19 @@ pub(crate) fn break_lines(
     let mut start = x;
     while i < n {
         out[lines] = i as u32;
-        lines += 1;
-        let a = 3 * i;
-        let mut width = start + runs[a];
-        let mut gap = runs[a + 2];
-        i += runs[a + 1] as usize;
-        'search: while i < n {
-            let b = 3 * i;
-            let longer = width + (gap + runs[b]);
-            if m < longer {
-                break 'search;
-            }
-            width = longer;
-            gap = runs[b + 2];
-            i += runs[b + 1] as usize;
+        let line = longest_line(ws, advances, gaps, offsets, i, m, start);
+        if line.end == i {
+            return Stop {
+                lines: lines,
+                place: i,
+            };
         }
+        lines += 1;
+        i = line.end;
         start = 0;
     }
-    lines
+    Stop {
+        lines: lines,
+        place: n,
+    }
 }

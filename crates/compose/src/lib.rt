@@ -2,10 +2,12 @@
 mod adjustment;
 mod breaking;
 mod checks;
+mod kept;
 mod paragraph;
 mod places;
-mod tables;
+mod rows;
 
+pub use kept::keep_rows;
 pub use paragraph::Answer;
 pub use paragraph::check;
 pub use paragraph::compose;

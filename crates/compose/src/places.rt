@@ -1,29 +1,23 @@
 // The words of each line and of the places of its records.
 ghost use mathlib.Core.Path.{_≡_};
-ghost use mathlib.Core.Bool.{cond};
 ghost use mathlib.Core.List.{[], _∷_};
-ghost use Prim.Native.Nat.{_+_, _*_, _≤_, _<_};
-ghost use lib.Dec.{eqb};
-ghost use lib.ListN.{length, getD};
+ghost use Prim.Native.Nat.{_+_, _*_, _-_, _≤_};
+ghost use lib.ListN.{length};
 ghost use lib.Seq.{paste};
 ghost use Rattle.rules.specs.Values.{gapFrom};
-ghost use Rattle.compose.specs.Lines.{Composable, Written};
-ghost use Rattle.compose.specs.Adjusted.{amountsFrom, withUnit, UnitToPlace};
-ghost use Rattle.compose.specs.Adjusted.{LineToPlace, LinePlaced, LineToCompose, LineComposed};
+ghost use Rattle.compose.specs.Adjusted.{amountsFrom, LineToPlace, linePlaces, LineToCompose, LineComposed};
+ghost use Rattle.compose.specs.Adjusted.{ToCompose, ComposedTo};
+use crate::adjustment::Rates;
 use crate::adjustment::Stages;
-use crate::adjustment::floors_at;
-use crate::adjustment::gap_at;
 use crate::adjustment::line_amounts;
 use crate::adjustment::line_kind;
-use crate::adjustment::line_sums;
-use crate::adjustment::place_after;
-use crate::adjustment::unit_advance;
-use crate::adjustment::unit_end;
-use crate::adjustment::wide;
-use crate::checks::record_at;
+use crate::adjustment::line_rates;
+use crate::adjustment::place_at;
+use crate::breaking::LineSums;
+use crate::breaking::Stop;
+use crate::breaking::longest_line;
 use rules::Gap;
 use rules::added;
-use rules::base_offset;
 use rules::unpack;
 
 // Writes the place of record `b`.
@@ -36,60 +30,36 @@ fn put_place(places: &mut [u32], b: usize, x: u32, line: u32)
     places[at + 1] = line;
 }
 
-// Writes the places of the unit that starts with record `a`, where it stands at `x`.
-fn place_unit(ws: &[u32], units: &[u32; 768], a: usize, line: u32, x: u32, places: &mut [u32])
-    requires { ⌜ UnitToPlace (now ws) (now units) (now places) a x ⌝ }
-    ensures { λ _. ⌜ now (places .exit) ≡ withUnit (now (ws .entry)) (now (places .entry)) a line x ⌝ }
-{
-    let records = units[3 * a];
-    let base = units[3 * a + 1];
-    let first = record_at(ws, a);
-    let mut solid: u32 = 0;
-    let mut k: u32 = 0;
-    while k < records {
-        let b = a + k as usize;
-        let offset = base_offset(base, first.ruby, first.size, records, k, solid);
-        put_place(places, b, x + offset, line);
-        let r = record_at(ws, b);
-        solid += r.advance;
-        k += 1;
-    }
-}
-
-// Writes the places of the line of the records from `i` up to `j`, from `x` on, and gives its end.
+// Writes the places of the line of the records from `i` up to `j`, which starts at `x`.
 fn place_line(
     ws: &[u32],
-    units: &[u32; 768],
+    advances: &[u32; 256],
     gaps: &[u64; 256],
+    offsets: &[u32; 256],
     i: usize,
     j: usize,
     line: u32,
     x: u32,
+    rates: Rates,
     e: Stages,
     c: Gap,
     places: &mut [u32],
-) -> u32
-    requires { ⌜ LineToPlace (now ws) (now units) (now gaps) (now places) i j x (amountsFrom e) (gapFrom c) ⌝ }
-    ensures { λ r. ⌜ LinePlaced (now (ws .entry)) (now (places .entry)) (now (places .exit)) i j line x
-        (amountsFrom e) (gapFrom c) r ⌝ }
+)
+    requires { ⌜ LineToPlace (now ws) (now advances) (now gaps) (now offsets) (now places) i j x
+        rates (amountsFrom e) (gapFrom c) ⌝ }
+    ensures { λ _. ⌜ now (places .exit) ≡ paste (now (places .entry)) (2 * i)
+        (linePlaces (now (ws .entry)) i j line x (amountsFrom e) (gapFrom c)) (2 * (j - i)) ⌝ }
 {
-    let mut a = i;
-    let mut at = x;
-    // where the units before would end if they stood solid
+    // where the units before would end if they stood solid, and what the gaps up to here add up to
     let mut solid = x;
     let mut sums: u64 = 0;
-    loop {
-        place_unit(ws, units, a, line, at, places);
-        let advance = unit_advance(units, a);
-        let next = unit_end(units, a);
-        if j <= next {
-            return at + advance;
-        }
-        solid += advance;
-        sums = added(sums, gap_at(gaps, a));
-        let upto = unpack(sums);
-        at = place_after(solid, upto.space, floors_at(e, c, upto));
-        a = next;
+    let mut k = i;
+    while k < j {
+        let at = place_at(rates, e, c, solid, sums);
+        put_place(places, k, at + offsets[k], line);
+        solid += advances[k] / 2;
+        sums = added(sums, gaps[k]);
+        k += 1;
     }
 }
 
@@ -104,13 +74,14 @@ fn put_line(lines: &mut [u32], k: usize, first: u32, end: u32, kind: u32)
     lines[at + 2] = kind;
 }
 
-// Composes line `k`, of the records from `i` up to `j`: its places, and first record, end x and kind.
+// Composes line `k`, which starts with record `i`: its places, and first record, end x and kind.
 fn compose_line(
     ws: &[u32],
-    units: &[u32; 768],
+    advances: &[u32; 256],
     gaps: &[u64; 256],
+    offsets: &[u32; 256],
     i: usize,
-    j: usize,
+    line: LineSums,
     k: usize,
     m: u32,
     x: u32,
@@ -118,66 +89,74 @@ fn compose_line(
     places: &mut [u32],
     lines: &mut [u32],
 )
-    requires { ⌜ LineToCompose (now ws) (now units) (now gaps) (now places) (now lines) i j k m x ⌝ }
+    requires { ⌜ LineToCompose (now ws) (now advances) (now gaps) (now offsets) (now places) (now lines) i line
+        k m x ⌝ }
     ensures { λ _. ⌜ LineComposed (now (ws .entry)) (now (places .entry)) (now (lines .entry)) (now (places .exit))
-        (now (lines .exit)) i j k m x last ⌝ }
+        (now (lines .exit)) i (line .end) k m x last ⌝ }
 {
-    let sums = line_sums(ws, units, gaps, i, j);
-    let c = sums.gaps;
-    let e = line_amounts(x + sums.advances + c.space, m, last, c);
-    let end = place_line(ws, units, gaps, i, j, k as u32, x, e, c, places);
+    let c = unpack(line.gaps);
+    let e = line_amounts(line.solid + c.space, m, last, c);
+    let rates = line_rates(e, c);
+    place_line(
+        ws,
+        advances,
+        gaps,
+        offsets,
+        i,
+        line.end,
+        k as u32,
+        x,
+        rates,
+        e,
+        c,
+        places,
+    );
+    let end = place_at(rates, e, c, line.solid, line.gaps);
     put_line(lines, k, i as u32, end, line_kind(last, e, c));
 }
 
-// Where line `k` ends: at the next line's first record, or at the paragraph's end.
-fn line_end(starts: &[u32; 256], count: usize, k: usize, size: usize) -> usize
-    requires { ⌜ (k < count) × (count ≤ 256) ⌝ }
-    ensures { λ j. ⌜ j ≡ cond (eqb (k + 1) count) size (getD (now (starts .entry)) (k + 1) 0) ⌝ }
-{
-    if k + 1 == count {
-        size
-    } else {
-        wide(starts[k + 1])
-    }
-}
-
-// Composes the lines of a paragraph: writes the places of its records and the words of its lines.
-pub(crate) fn place_lines(
+// Breaks a paragraph into lines and composes them: writes the places of its records and the words of its lines. Line 0
+// starts at `x`.
+pub(crate) fn compose_lines(
     ws: &[u32],
-    units: &[u32; 768],
+    advances: &[u32; 256],
     gaps: &[u64; 256],
-    starts: &[u32; 256],
-    count: usize,
+    offsets: &[u32; 256],
     m: u32,
     x: u32,
     places: &mut [u32],
     lines: &mut [u32],
-)
-    requires { ⌜ Composable (now ws) (now units) (now gaps) (now starts) (now places) (now lines) count m x ⌝ }
-    ensures { λ _. ⌜ Written (now (ws .entry)) (now (places .entry)) (now (lines .entry)) (now (places .exit))
-        (now (lines .exit)) count m x ⌝ }
+) -> Stop
+    requires { ⌜ ToCompose (now ws) (now advances) (now gaps) (now offsets) (now places) (now lines) m x ⌝ }
+    ensures { λ r. ⌜ ComposedTo (now (ws .entry)) m x (now (places .entry)) (now (lines .entry)) (now (places .exit))
+        (now (lines .exit)) r ⌝ }
 {
-    let size = ws.len() / 6;
-    let mut k = 0;
-    let mut i = 0;
+    let n = ws.len() / 6;
+    let mut k: usize = 0;
+    let mut i: usize = 0;
     let mut start = x;
-    while k < count {
-        let j = line_end(starts, count, k, size);
+    while i < n {
+        let line = longest_line(ws, advances, gaps, offsets, i, m, start);
+        if line.end == i {
+            return Stop { lines: k, place: i };
+        }
         compose_line(
             ws,
-            units,
+            advances,
             gaps,
+            offsets,
             i,
-            j,
+            line,
             k,
             m,
             start,
-            k + 1 == count,
+            line.end == n,
             places,
             lines,
         );
-        i = j;
+        i = line.end;
         start = 0;
         k += 1;
     }
+    Stop { lines: k, place: n }
 }

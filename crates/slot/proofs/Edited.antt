@@ -13,8 +13,12 @@ use Rattle.rules.specs.Sheet.{countOf, measureOf, indentOf, recordsOf, limitsOk
 use Rattle.rules.specs.Refusals.{splice, edited}
 use Rattle.rules.specs.Meanings.{All}
 use Rattle.compose.specs.Paragraph.{size, paragraph, IsListed, ListedBut}
-use Rattle.slot.specs.Slot.{spliced, Replaceable}
-use Rattle.slot.proofs.Stored.{old-room}
+use Rattle.compose.specs.Scan.{RowsFrom}
+use Rattle.compose.specs.Composed.{Kept}
+use Rattle.compose.specs.Kept.{KeptFrom}
+use Rattle.compose.proofs.KeptRows.{rows-kept}
+use Rattle.slot.specs.Slot.{spliced, storedWords, Replaceable}
+use Rattle.slot.proofs.Stored.{old-room, stored-paragraph}
 use Rattle.slot.proofs.Spliced.{spliced-records, length-spliced}
 use Rattle.rules.proofs.Parts.{all-take, all-drop}
 use Rattle.rules.proofs.Splices.{splice-front, splice-after}
@@ -85,6 +89,25 @@ module _ (s : List ℕ) (p d : ℕ) (ins : List ℕ) (len : length s ≡ 2824) (
         after = rw (records-words, b) (all-drop h (p + d));
       }
 
+  -- and the rows of those after them are kept
+  words-rows : {ds gs os ds′ gs′ os′ : List ℕ} {r : ℕ} → Kept (storedWords s) ds gs os →
+      KeptFrom (storedWords s) (p + d) (p + k) ds gs os ds′ gs′ os′ r → RowsFrom list-words p r ds′ gs′ os′
+  unfolding total k
+  words-rows q t =
+      let rs = recordsOf s in
+      let new = records ins 0 (length ins / 6) in
+      let was = stored-paragraph s len few in
+      let r : length rs ≡ countOf s = length-records (drop 8 s) 0 (countOf s) in
+      let n : length new ≡ length ins / 6 = length-records ins 0 (length ins / 6) in
+      rows-kept q t list-words p
+      (λ i.
+      let j = p + length ins / 6 + i in
+      let e : j - length new + d ≡ p + d + i = omega (arith, n) in
+      rw (records-words, was, ← e) (splice-after rs p d new j (omega (arith, r)) (omega (arith, n))))
+      (omega (arith, length-words))
+      (omega (arith, length-words))
+      (rw (records-words, was) (splice-front rs p d new (omega (arith, r))))
+
   -- the list that the program makes: those words, and zeros
   pub record NewList (list : List ℕ) : Type 0 where
     pub replaceable : limitsOk (measureOf s) (indentOf s) ≡ true →
@@ -92,16 +115,19 @@ module _ (s : List ℕ) (p d : ℕ) (ins : List ℕ) (len : length s ≡ 2824) (
     pub records : paragraph (take ((countOf s - d) * 6 + length ins) list) ≡ edited s p d ins
     pub listed : All IsListed (recordsOf s) →
         ListedBut (take ((countOf s - d) * 6 + length ins) list) p (p + length ins / 6)
+    pub rows : {ds gs os ds′ gs′ os′ : List ℕ} {r : ℕ} → Kept (storedWords s) ds gs os →
+        KeptFrom (storedWords s) (p + d) (p + length ins / 6) ds gs os ds′ gs′ os′ r →
+        RowsFrom (take ((countOf s - d) * 6 + length ins) list) p r ds′ gs′ os′
     pub new-few : length (edited s p d ins) ≤ 256
 
   pub new-list : (list : List ℕ) →
       list ≡
-      spliced (take (8 + countOf s * 6 - 8) (drop 8 s)) (p * 6) ((p + d) * 6) ins
-      ++ drop (p * 6 + length ins + (length (take (8 + countOf s * 6 - 8) (drop 8 s)) - (p + d) * 6)) (zeros 1536) →
+      spliced (take (8 + 6 * countOf s - 8) (drop 8 s)) (p * 6) ((p + d) * 6) ins
+      ++ drop (p * 6 + length ins + (length (take (8 + 6 * countOf s - 8) (drop 8 s)) - (p + d) * 6)) (zeros 1536) →
       NewList list
   unfolding list-words old total k
   new-list list e =
-      let a : 8 + countOf s * 6 - 8 ≡ 6 * countOf s = omega arith in
+      let a : 8 + 6 * countOf s - 8 ≡ 6 * countOf s = omega arith in
       let b : p * 6 ≡ 6 * p = omega arith in
       let c : (p + d) * 6 ≡ 6 * (p + d) = omega arith in
       let l : length (take (6 * countOf s) (drop 8 s)) ≡ 6 * countOf s =
@@ -127,5 +153,7 @@ module _ (s : List ℕ) (p d : ℕ) (ins : List ℕ) (len : length s ≡ 2824) (
             ∙ ap (λ w. paragraph w) (take-at list-words (drop total (zeros 1536)) total length-words) ∙ records-words;
         listed = λ h. rw (ap (λ w. take total w) f, take-at list-words (drop total (zeros 1536)) total length-words)
             (words-listed h);
+        rows = λ q t. rw (ap (λ w. take total w) f, take-at list-words (drop total (zeros 1536)) total length-words)
+            (words-rows q t);
         new-few = rw (← records-words) (omega (arith, length-records list-words 0 (size list-words), length-words));
       }

@@ -23,7 +23,7 @@ use Rattle.rules.proofs.FirstFailing.{none-fails}
 use Rattle.rules.proofs.Judged.{judged-passes, line-count}
 use Rattle.compose.specs.Paragraph.{size, paragraph, IsListed}
 use Rattle.compose.specs.Composed.{Fitting}
-use Rattle.slot.specs.Slot.{StoredLines}
+use Rattle.slot.specs.Slot.{storedWords, StoredLines}
 
 -- measure and indent within limits
 pub limits-measure : (m x : ℕ) → limitsOk m x ≡ true → m ≤ 1000000
@@ -53,13 +53,16 @@ module _ (s : List ℕ) (len : length s ≡ 2824) (few : countOf s ≤ 256) wher
   pub old-room : 6 * countOf s ≤ length (drop 8 s)
   old-room = omega (arith, length-drop 8 s)
 
-  part : take (8 + 6 * countOf s - 8) (drop 8 s) ≡ take (6 * countOf s) (drop 8 s)
+  part : storedWords s ≡ take (6 * countOf s) (drop 8 s)
   part = let e : 8 + 6 * countOf s - 8 ≡ 6 * countOf s = omega arith in rw e
 
-  pub stored-size : size (take (8 + 6 * countOf s - 8) (drop 8 s)) ≤ 256
-  stored-size = rw part (omega (arith, front-size (drop 8 s) (countOf s) old-room))
+  pub stored-count : size (storedWords s) ≡ countOf s
+  stored-count = rw part (front-size (drop 8 s) (countOf s) old-room)
 
-  pub stored-paragraph : paragraph (take (8 + 6 * countOf s - 8) (drop 8 s)) ≡ recordsOf s
+  pub stored-size : size (storedWords s) ≤ 256
+  stored-size = omega (arith, stored-count)
+
+  pub stored-paragraph : paragraph (storedWords s) ≡ recordsOf s
   stored-paragraph = ap (λ ws. paragraph ws) part ∙ front-paragraph (drop 8 s) (countOf s) old-room
 
 -- answer 4, test by test
@@ -112,10 +115,12 @@ module _ (s : List ℕ) where
       none-fails isListed 0 (recordsOf s) (judged-passes (measureOf s) (indentOf s) (recordsOf s) 0 refl z .listed)
 
 -- what is told of a slot's lines
-pub stored-damaged : (s starts : List ℕ) (number place : ℕ) → sound s ≡ false → (number ≡ 4) × (place ≡ 0) →
-    StoredLines s starts number place
-stored-damaged s starts number place a e =
-    record { answer = rw a (e .0); lines = λ z. absurd (omega (arith, e .0)) }
+pub stored-damaged : {K : Type 0} (s starts : List ℕ) (number place : ℕ) → sound s ≡ false →
+    (number ≡ 4) × (place ≡ 0) → StoredLines s starts number place × (number ≡ 0 → K)
+stored-damaged s starts number place a e = (
+  record { answer = rw a (e .0); lines = λ z. absurd (omega (arith, e .0)) },
+  λ z. absurd (omega (arith, e .0)),
+)
 
 pub refused-sound : (s : List ℕ) (number place : ℕ) →
     sound s ≡ eqb (judged (measureOf s) (indentOf s) (recordsOf s) .number) 0 →

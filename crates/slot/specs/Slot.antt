@@ -7,14 +7,14 @@
 --
 -- Assumes nothing.
 use mathlib.Core.Path.{_≡_}
-use Prim.Native.Nat.{ℕ, _+_, _-_, _%_, _≤_}
+use Prim.Native.Nat.{ℕ, _+_, _*_, _-_, _%_, _≤_}
 use mathlib.Core.List.{List, _++_}
 use mathlib.Core.Bool.{true, cond}
 use lib.Dec.{eqb}
 use lib.ListN.{length, take, drop}
 use Rattle.rules.specs.Basics.{zeros}
 use Rattle.rules.specs.Records.{Rec}
-use Rattle.rules.specs.Sheet.{head, slotWords, measureOf, indentOf, settingOf, limitsOk}
+use Rattle.rules.specs.Sheet.{head, slotWords, countOf, measureOf, indentOf, settingOf, limitsOk}
 use Rattle.rules.specs.Refusals.{Answer, Outcome, judged, sound}
 use Rattle.rules.specs.Stable.{ruledLines}
 use Rattle.slot.specs.Redone.{Starts}
@@ -30,6 +30,10 @@ spliced ws before after inserted = take before ws ++ (inserted ++ drop after ws)
 abbrev pub splicedInto : List ℕ → List ℕ → ℕ → ℕ → List ℕ → List ℕ
 splicedInto list ws before after inserted =
     spliced ws before after inserted ++ drop (before + length inserted + (length ws - after)) list
+
+-- the words of its records
+abbrev pub storedWords : List ℕ → List ℕ
+storedWords s = take (8 + 6 * countOf s - 8) (drop 8 s)
 
 pub record StoredLines (s starts : List ℕ) (number place : ℕ) : Type 0 where
   pub answer : number ≡ cond (sound s) 0 4

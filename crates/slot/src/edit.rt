@@ -3,14 +3,17 @@ ghost use mathlib.Core.Path.{_≡_};
 ghost use lib.ListN.{length, take};
 ghost use Rattle.rules.specs.Refusals.{says, editSays, editSlot};
 ghost use Rattle.compose.specs.Paragraph.{paragraph, ListedBut};
+ghost use Rattle.compose.specs.Scan.{RowsFrom};
+ghost use Rattle.compose.specs.Composed.{Kept};
 ghost use Rattle.slot.specs.Redone.{Countable, Counted};
-ghost use Rattle.slot.specs.Slot.{StoredLines, replaced, Replaceable};
+ghost use Rattle.slot.specs.Slot.{storedWords, StoredLines, replaced, Replaceable};
 use crate::redone::lines_redone;
 use crate::words::splice;
 use crate::words::write_slot;
 use compose::Answer;
 use compose::check;
 use compose::compose;
+use compose::keep_rows;
 use rules::limits_ok;
 
 // A number and a place, as document 01's table of refusals has them for an edit, and the lines composed anew. A
@@ -41,11 +44,20 @@ pub(crate) fn damaged() -> Answer
     }
 }
 
-// Answer 4, or 0 and how many lines the rules give the slot's records: then the first record of each stands in
-// `starts`. The stored line words are not looked at, since on a sheet of any words they may be anything.
-pub(crate) fn stored_lines(words: &[u32], starts: &mut [u32; 256]) -> Answer
+// Answer 4, or 0 and how many lines the rules give the slot's records: then the records' rows are filled, and the first
+// record of each line stands in `starts`. The stored line words are not looked at, since on a sheet of any words they
+// may be anything.
+pub(crate) fn stored_lines(
+    words: &[u32],
+    advances: &mut [u32; 256],
+    gaps: &mut [u64; 256],
+    offsets: &mut [u32; 256],
+    starts: &mut [u32; 256],
+) -> Answer
     requires { ⌜ length (now words) ≡ 2824 ⌝ }
-    ensures { λ r. ⌜ StoredLines (now (words .entry)) (now (starts .exit)) (r .number) (r .place) ⌝ }
+    ensures lines { λ r. ⌜ StoredLines (now (words .entry)) (now (starts .exit)) (r .number) (r .place) ⌝ }
+    ensures rows { λ r. ⌜ (r .number ≡ 0 → Kept (storedWords (now (words .entry))) (now (advances .exit))
+        (now (gaps .exit)) (now (offsets .exit))) ⌝ }
 {
     let m = words[1];
     let x = words[2];
@@ -60,7 +72,7 @@ pub(crate) fn stored_lines(words: &[u32], starts: &mut [u32; 256]) -> Answer
         return damaged();
     }
     let end = 8 + 6 * count as usize;
-    let a = check(&words[8..end], m, x, starts);
+    let a = check(&words[8..end], m, x, advances, gaps, offsets, starts);
     if a.number != 0 {
         return damaged();
     }
@@ -68,9 +80,21 @@ pub(crate) fn stored_lines(words: &[u32], starts: &mut [u32; 256]) -> Answer
 }
 
 // Composes the first `total` words of `list` as the slot's records and, where they are accepted, writes the slot. Of
-// the records those from `start` up to `end` are new; the others were the slot's, and answer 4 has asked them.
-fn replace(words: &mut [u32], list: &[u32], total: usize, start: usize, end: usize) -> Answer
+// the records those from `start` up to `end` are new; the others were the slot's, and answer 4 has asked them. The rows
+// of the records from `kept` on are filled.
+fn replace(
+    words: &mut [u32],
+    list: &[u32],
+    total: usize,
+    start: usize,
+    end: usize,
+    kept: usize,
+    advances: &mut [u32; 256],
+    gaps: &mut [u64; 256],
+    offsets: &mut [u32; 256],
+) -> Answer
     requires { ⌜ Replaceable (now words) (now list) total × ListedBut (take total (now list)) start end ⌝ }
+    requires { ⌜ RowsFrom (take total (now list)) start kept (now advances) (now gaps) (now offsets) ⌝ }
     ensures { λ r. ⌜ (says (r .number) (r .place), now (words .exit)) ≡
         replaced (now (words .entry)) (paragraph (take total (now (list .entry)))) ⌝ }
 {
@@ -78,7 +102,19 @@ fn replace(words: &mut [u32], list: &[u32], total: usize, start: usize, end: usi
     let x = words[2];
     let mut places = [0u32; 512];
     let mut lines = [0u32; 768];
-    let a = compose(&list[0..total], start, end, m, x, &mut places, &mut lines);
+    let a = compose(
+        &list[0..total],
+        start,
+        end,
+        kept,
+        m,
+        x,
+        advances,
+        gaps,
+        offsets,
+        &mut places,
+        &mut lines,
+    );
     if a.number == 0 {
         write_slot(words, (total / 6) as u32, a.place, list, &places, &lines);
     }
@@ -127,8 +163,11 @@ pub fn edit_slot(words: &mut [u32], place: u32, deleted: u32, inserted: &[u32]) 
     ensures { λ r. ⌜ (editSays (r .number) (r .place) (r .redone), now (words .exit)) ≡
         editSlot (now (words .entry)) place deleted (now (inserted .entry)) ⌝ }
 {
+    let mut advances = [0u32; 256];
+    let mut gaps = [0u64; 256];
+    let mut offsets = [0u32; 256];
     let mut starts = [0u32; 256];
-    let stored = stored_lines(words, &mut starts);
+    let stored = stored_lines(words, &mut advances, &mut gaps, &mut offsets, &mut starts);
     if stored.number != 0 {
         return refusal(4, 0);
     }
@@ -148,7 +187,7 @@ pub fn edit_slot(words: &mut [u32], place: u32, deleted: u32, inserted: &[u32]) 
         return refusal(7, 0);
     }
     let mut list = [0u32; 1536];
-    let end = 8 + count as usize * 6;
+    let end = 8 + 6 * count as usize;
     splice(
         &mut list,
         &words[8..end],
@@ -157,6 +196,30 @@ pub fn edit_slot(words: &mut [u32], place: u32, deleted: u32, inserted: &[u32]) 
         inserted,
     );
     let start = place as usize;
-    let a = replace(words, &list, kept + n, start, start + n / 6);
+    let mut new_advances = [0u32; 256];
+    let mut new_gaps = [0u64; 256];
+    let mut new_offsets = [0u32; 256];
+    let rows = keep_rows(
+        &words[8..end],
+        (place + deleted) as usize,
+        start + n / 6,
+        &advances,
+        &gaps,
+        &offsets,
+        &mut new_advances,
+        &mut new_gaps,
+        &mut new_offsets,
+    );
+    let a = replace(
+        words,
+        &list,
+        kept + n,
+        start,
+        start + n / 6,
+        rows,
+        &mut new_advances,
+        &mut new_gaps,
+        &mut new_offsets,
+    );
     counted(a, &starts, stored.place, words, place, deleted, n / 6)
 }

@@ -13,8 +13,11 @@ pub fn give_back_slot(words: &mut [u32]) -> Answer
     requires { ⌜ length (now words) ≡ 2824 ⌝ }
     ensures { λ r. ⌜ (says (r .number) (r .place), now (words .exit)) ≡ giveBackSlot (now (words .entry)) ⌝ }
 {
+    let mut advances = [0u32; 256];
+    let mut gaps = [0u64; 256];
+    let mut offsets = [0u32; 256];
     let mut starts = [0u32; 256];
-    let stored = stored_lines(words, &mut starts);
+    let stored = stored_lines(words, &mut advances, &mut gaps, &mut offsets, &mut starts);
     if stored.number != 0 {
         return damaged();
     }

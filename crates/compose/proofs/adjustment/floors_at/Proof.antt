@@ -17,8 +17,13 @@ shared-requires-4 c κs = search needs
 
 returns : tie.Need-returns
 returns c =
-    let d = c .before .before in
-    rw (d .before .shared .ensures, d .shared2 .ensures, c .before .shared3 .ensures, c .shared4 .ensures)
+    λ t.
+    record {
+      shrink₁ = c .before .before .before .shared .ensures t;
+      shrink₂ = c .before .before .shared2 .ensures t;
+      stretch₁ = c .before .shared3 .ensures t;
+      stretch₂ = c .shared4 .ensures t;
+    }
 
 pub floors-at-spec : {M : Type 1} → statement M
 floors-at-spec =

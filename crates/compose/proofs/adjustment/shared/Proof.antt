@@ -1,33 +1,30 @@
 -- `compose::adjustment::shared` meets its contract. Assumes nothing.
-use native.Mathlib.Nat.{zero-mul, mul-zero, zero-div}
+use mathlib.Core.Path.{_≡_}
+use Prim.Native.Nat.{_*_, _/_}
 use native.Mathlib.Omega.{arith}
-use borrow.Author.Needs.{needs}
-use Rattle.compose.proofs.Floors.{floor-within, product-fits}
+use Rattle.compose.proofs.Rates.{product-fits, floor-within, rate-share}
 use Rattle.compose.proofs.adjustment.shared.Statement.{statement}
 use Rattle.compose.proofs.adjustment.shared.Tie as tie
 
-returns : tie.Need-returns
-returns c = rw (c .if1 .taken, zero-mul, zero-div)
-
-returns-2 : tie.Need-returns-2
-returns-2 c = rw (c .if2 .taken, mul-zero, zero-div)
-
 mul-result : tie.Need-mul-result
 mul-result c =
-    let a = c .before .before .args in
-    let f = c .before .before .fits in
-    record { fits = product-fits (a .e) (a .s) (f .e .fits) (f .s .fits) }
+    let p = c .pre in
+    let a = c .args in
+    record { fits = rw (p .0) (product-fits (a .e) (a .s) (a .c) (p .1) (p .2) (p .3)) }
 
-div-result : tie.Need-div-result
-div-result c = search needs
+share : (c : tie.Start) → c .args .rate * c .args .s / 8796093022208 ≡ c .args .e * c .args .s / c .args .c
+share c =
+    let p = c .pre in
+    let a = c .args in
+    rw (p .0) (rate-share (a .e) (a .s) (a .c) (p .2) (p .3))
 
 cast-result : tie.Need-cast-result
 cast-result c =
-    let a = c .before .before .args in
-    omega (arith, floor-within (a .e) (a .s) (a .c) (c .before .before .pre), c .before .before .fits)
+    let a = c .args in
+    omega (arith, share c, floor-within (a .e) (a .s) (a .c) (c .pre .2), c .fits .e .fits)
 
-returns-3 : tie.Need-returns-3
-returns-3 c = search needs
+returns : tie.Need-returns
+returns c = share c
 
 pub shared-spec : {M : Type 1} → statement M
-shared-spec = tie.close (tie.spec returns returns-2 mul-result div-result cast-result returns-3)
+shared-spec = tie.close (tie.spec mul-result cast-result returns)

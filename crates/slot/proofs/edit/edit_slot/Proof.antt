@@ -11,19 +11,26 @@ use Rattle.rules.specs.Sheet.{countOf}
 use Rattle.rules.specs.Refusals.{Answer, says, Outcome, sound, edited}
 use Rattle.rules.specs.Stable.{ruledLines}
 use Rattle.slot.specs.Redone.{Starts}
-use Rattle.slot.specs.Slot.{replaced, Replaceable}
+use Rattle.compose.specs.Composed.{Kept}
+use Rattle.slot.specs.Slot.{storedWords, replaced, Replaceable}
 use Rattle.slot.proofs.Replaced.{replaced-length}
 use Rattle.slot.proofs.Counted.{countable, counted-answer}
-use Rattle.slot.proofs.Stored.{sound-limits, sound-count, sound-listed, stored-0, stored-4}
+use Rattle.slot.proofs.Stored.{sound-limits, sound-count, sound-listed, stored-count, stored-0, stored-4}
 use Rattle.slot.proofs.Outcomes.{refusals, refuses-4, refuses-5, refuses-5-end, refuses-6, refuses-7, replaces}
 use Rattle.slot.proofs.Edited.{NewList, new-list}
 use borrow.Author.Needs.{needs}
 use Rattle.slot.proofs.edit.edit_slot.Statement.{statement}
 use Rattle.slot.proofs.edit.edit_slot.Tie as tie
 
--- the function's entry, from places past answers 4 and 5 and past the splice
+-- the function's entry, from the stored lines, and from places past answers 4 and 5 and past the splice
+abbrev tables-lent : tie.After-stored-lines → tie.After-advances
+tables-lent c = c .before .before .before .before
+
+abbrev entry : tie.After-stored-lines → tie.Start
+entry c = tables-lent c .before .before .before .before
+
 abbrev past-4 : tie.Else1 → tie.Start
-past-4 c = c .before .before .before .before .before .before .before
+past-4 c = entry (c .before .before)
 
 abbrev past-5 : tie.Else3 → tie.Start
 past-5 c = past-4 (c .before .before .before)
@@ -41,15 +48,33 @@ five c = seven c .before .before
 abbrev four : tie.After-splice → tie.Else1
 four c = five c .before .before .before
 
+abbrev old-rows-lent : tie.After-new-offsets → tie.After-keep-rows-arg
+old-rows-lent c = c .before .before .before .before .before .before
+
+abbrev keeping : tie.After-new-offsets → tie.After-splice
+keeping c = old-rows-lent c .before .before .before
+
+abbrev new-rows-kept : tie.After-new-offsets3 → tie.After-new-offsets2
+new-rows-kept c = c .before .before .before .before .before
+
+abbrev kept : tie.After-new-offsets3 → tie.After-keep-rows
+kept c = new-rows-kept c .before .before .before
+
 abbrev listed : tie.After-replace → tie.After-splice
-listed c = c .before .before .before .before
+listed c = keeping (kept (c .before) .before)
 
 -- past answer 4 the slot is sound
 is-sound-at : (c : tie.Else1) → sound (now (past-4 c .args .words)) ≡ true
-is-sound-at c = stored-0 _ (c .before .before .stored-lines .ensures .answer) (c .if1 .left)
+is-sound-at c = stored-0 _ (c .before .before .stored-lines .ensures .0 .answer) (c .if1 .left)
 
 few-at : (c : tie.Else1) → countOf (now (past-4 c .args .words)) ≤ 256
 few-at c = sound-count (now (past-4 c .args .words)) (is-sound-at c)
+
+-- and its records' rows are filled
+rows-at : (c : tie.Else1) →
+    let k = c .before .before .stored-lines in
+    Kept (storedWords (now (past-4 c .args .words))) (k .last .1 .0) (k .last .1 .1 .0) (k .last .1 .1 .1 .0)
+rows-at c = c .before .before .stored-lines .ensures .1 (c .if1 .left)
 
 -- past answer 5 the deletion ends within the records
 within-at : (c : tie.Else3) → let a = past-5 c .args in a .place + a .deleted ≤ countOf (now (a .words))
@@ -69,8 +94,8 @@ new-list-at c = new-list _ _ _ _ _ _ _ _ _ _ (c .splice .ensures)
 returns : tie.Need-returns
 returns c =
     let d = c .before in
-    let a = d .before .before .before .before .before .before .before .args in
-    let b = stored-4 _ (d .before .before .stored-lines .ensures .answer) (d .if1 .taken) in
+    let a = entry (d .before .before) .args in
+    let b = stored-4 _ (d .before .before .stored-lines .ensures .0 .answer) (d .if1 .taken) in
     refusals 4 0 _ _ _ (now (a .words)) _ (c .refusal .ensures)
     (refuses-4 (now (a .words)) (a .place) (a .deleted) (now (a .inserted)) b)
 
@@ -126,6 +151,35 @@ add-splice c =
     let five = c .before .before .before .before .before in
     omega (arith, few-at (five .before .before .before), within-at five)
 
+part-keep-rows-end : tie.Need-part-keep-rows-end
+part-keep-rows-end c =
+    let d = four (c .before .before) in
+    omega (arith, few-at d, past-4 d .pre)
+
+add-keep-rows : tie.Need-add-keep-rows
+add-keep-rows c =
+    let d = c .before .before .before in
+    omega (arith, few-at (four d), within-at (five d))
+
+keep-rows-requires : tie.Need-keep-rows-requires
+keep-rows-requires c κs =
+    let d = keeping c in
+    let s = spliced d in
+    let n = stored-count (now (s .args .words)) (s .pre) (few-at (four d)) in
+    record {
+      few = omega (arith, n, few-at (four d));
+      within = omega (arith, n, within-at (five d));
+      room = omega (arith, n, within-at (five d), seven d .if5 .left);
+      advance-room = search needs;
+      gap-room = search needs;
+      offset-room = search needs;
+    }
+
+add-replace : tie.Need-add-replace
+add-replace c =
+    let k = c .before .before .before .before .before in
+    omega (arith, seven (keeping (k .before)) .if5 .left)
+
 -- it may replace the slot's own
 replaceable-at : (c : tie.After-splice) →
     let a = spliced c .args in
@@ -136,19 +190,24 @@ replaceable-at c =
 
 replace-requires : tie.Need-replace-requires
 replace-requires c κs =
-    let d = c .before .before .before in
-    (replaceable-at d, new-list-at d .listed (sound-listed (now (spliced d .args .words)) (is-sound-at (four d))))
+    let k = kept c in
+    let d = keeping (k .before) in
+    let n = new-list-at d in (
+      (replaceable-at d, n .listed (sound-listed (now (spliced d .args .words)) (is-sound-at (four d)))),
+      n .rows (rows-at (four d)) (k .keep-rows .ensures),
+    )
 
 add-replace-2 : tie.Need-add-replace-2
 add-replace-2 c =
-    let d = c .before .before .before in
+    let k = c .before .before .before .before .before in
+    let d = keeping (k .before) in
     omega (arith, few-at (four d), within-at (five d), seven d .if5 .left)
 
 -- the old lines' first records, and what becomes of the slot
 starts-at : (c : tie.Else1) →
     let k = c .before .before .stored-lines in
-    Starts (k .last .1 .0) (k .result .place) (ruledLines (now (past-4 c .args .words)))
-starts-at c = c .before .before .stored-lines .ensures .lines (c .if1 .left)
+    Starts (k .last .1 .1 .1 .1 .0) (k .result .place) (ruledLines (now (past-4 c .args .words)))
+starts-at c = c .before .before .stored-lines .ensures .0 .lines (c .if1 .left)
 
 replaced-at : (c : tie.After-replace) →
     let a = spliced (listed c) .args in
@@ -220,6 +279,16 @@ edit-slot-spec =
     (λ c κs. search needs)
     (λ c. search needs)
     (λ c. search needs)
+    part-keep-rows-end
+    add-keep-rows
+    (λ c. search needs)
+    (λ c. search needs)
+    (λ c. search needs)
+    (λ c. search needs)
+    (λ c. search needs)
+    keep-rows-requires
+    (λ c. search needs)
+    add-replace
     add-replace-2
     replace-requires
     counted-requires

@@ -14,31 +14,42 @@ use borrow.Author.Needs.{needs}
 use Rattle.slot.proofs.edit.replace.Statement.{statement}
 use Rattle.slot.proofs.edit.replace.Tie as tie
 
+-- the function's entry, from where all is lent to the composing
+abbrev rows-lent : tie.After-lines → tie.After-compose-arg3
+rows-lent c = c .before .before .before
+
+abbrev entry : tie.After-lines → tie.Start
+entry c = rows-lent c .before .before .before .before .before .before .before
+
 compose-requires : tie.Need-compose-requires
 compose-requires c κs =
-    let s = c .before .before .before .before .before .before .before in
-    let r = s .pre .0 in
+    let s = entry c in
+    let r = s .pre .0 .0 in
     rw sub-zero (
-      fitting _ _ _ (replaced-few (now (s .args .words)) (now (s .args .list)) (s .args .total) r) (r .limits),
+      (
+        fitting _ _ _ (replaced-few (now (s .args .words)) (now (s .args .list)) (s .args .total) r) (r .limits),
+        s .pre .0 .1,
+      ),
       s .pre .1,
     )
 
 returns : tie.Need-returns
 unfolding zeros
 returns c =
-    let s =
-    c .before .before .before .before .before .before .before .before .before
-    .before .before .before .before .before .before .before in
-    let k = c .before .before .before .before .before .before .before .before .compose in
-    accepted-slot (now (s .args .words)) (now (s .args .list)) (s .args .total) (s .pre .0) _ _ _ (k .result .number)
+    let written = c .before .before .before in
+    let accepted = written .before .before .before in
+    let d = accepted .before .before in
+    let s = entry (d .before) in
+    let k = d .compose in
+    accepted-slot (now (s .args .words)) (now (s .args .list)) (s .args .total) (s .pre .0 .0) _ _ _ (k .result .number)
     (k .result .place)
-    (c .before .before .before .before .before .before .if1 .taken)
+    (accepted .if1 .taken)
     (rw sub-zero at (k .ensures))
     (c .before .before .write-slot .ensures)
 
 returns-2 : tie.Need-returns-2
 returns-2 c =
-    let s = c .before .before .before .before .before .before .before .before .before .before in
+    let s = entry (c .before .before .before) in
     let k = c .before .before .compose in
     let e : take (s .args .total - 0) (now (s .args .list)) ≡ take (s .args .total) (now (s .args .list)) = rw
     sub-zero in

@@ -43,9 +43,15 @@ returns-3 c =
     let w = now (entry (e .before) .args .words) in
     stored-damaged w _ _ _ (use-off w (limits-at (e .before)) (e .if2 .left) (d .if3 .taken)) (c .damaged3 .ensures)
 
--- past the tests of measure and indent, of the count and of the in-use word
+-- past the tests of measure and indent, of the count and of the in-use word; and that place, from the check
 abbrev head-passed : tie.Else3 → tie.Else2
 head-passed c = c .before .before
+
+abbrev tables-lent : tie.After-check → tie.After-check-arg
+tables-lent c = c .before .before .before .before .before
+
+abbrev checking : tie.After-check → tie.Else3
+checking c = tables-lent c .before
 
 records-tell-at : (c : tie.Else3) →
     let w = now (entry (head-passed c .before) .args .words) in
@@ -56,34 +62,36 @@ records-tell-at c =
 
 check-requires : tie.Need-check-requires
 check-requires c κs =
-    let d = head-passed (c .before .before) in
+    let d = head-passed (c .before .before .before .before .before) in
     let s = entry (d .before) in
     fitting _ _ _ (stored-size (now (s .args .words)) (s .pre) (d .if2 .left)) (limits-at (d .before))
 
 returns-4 : tie.Need-returns-4
 returns-4 c =
     let k = c .before .before .before in
-    let h = k .before .before .before in
+    let h = checking k in
     let d = head-passed h in
     let s = entry (d .before) in
     let w = now (s .args .words) in
     let a = ap (judged (measureOf w) (indentOf w)) (sym (stored-paragraph w (s .pre) (d .if2 .left)))
-    ∙ k .check .ensures .answer in
+    ∙ k .check .ensures .0 .answer in
     stored-damaged w _ _ _ (refused-sound w _ _ (records-tell-at h) a (c .before .if4 .taken)) (c .damaged4 .ensures)
 
 returns-5 : tie.Need-returns-5
 returns-5 c =
     let k = c .before .before in
-    let h = k .before .before .before in
+    let h = checking k in
     let d = head-passed h in
     let s = entry (d .before) in
     let w = now (s .args .words) in
     let p = stored-paragraph w (s .pre) (d .if2 .left) in
     let z = c .if4 .left in
-    let a = ap (judged (measureOf w) (indentOf w)) (sym p) ∙ k .check .ensures .answer in
-    stored-sound w _ _ _ (records-tell-at h) a z
-    (λ j l.
-    k .check .ensures .first z j l ∙ ap (λ rs. start j (compose (measureOf w) (indentOf w) (units rs))) p)
+    let a = ap (judged (measureOf w) (indentOf w)) (sym p) ∙ k .check .ensures .0 .answer in (
+      stored-sound w _ _ _ (records-tell-at h) a z
+          (λ j l.
+          k .check .ensures .0 .first z j l ∙ ap (λ rs. start j (compose (measureOf w) (indentOf w) (units rs))) p),
+      k .check .ensures .1,
+    )
 
 pub stored-lines-spec : {M : Type 1} → statement M
 stored-lines-spec =

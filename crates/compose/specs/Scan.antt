@@ -1,0 +1,106 @@
+-- The scan from the right that fills the rows and asks 8 and 9 on its way.
+--
+--   scanned from    the records from i on keep their own rules and those of groups, and a unit starts with record i;
+--                   those before `start` are known to keep their own
+--   unit before     the unit that ends before record i, or i where 8 or 9 applies to one of its records
+--   after unit      what stands after a unit: the gap and the tie of its last row
+--   scanned         answers 8 and 9 apply to no record and all rows are filled; or one of them applies
+--
+-- Assumes nothing.
+use mathlib.Core.Path.{_≡_}
+use Prim.Native.Nat.{ℕ, _+_, _-_, _≤_, _<_}
+use mathlib.Core.Bool.{Bool, true, false}
+use mathlib.Core.List.{List, _∷_}
+use mathlib.Core.Option.{none}
+use lib.ListN.{length, take}
+use Rattle.rules.specs.Records.{Rec, recAt, records, recOk, badRecord}
+use Rattle.rules.specs.Groups.{TextUnit, sameGroup, groupFault, count, baseTotal}
+use Rattle.rules.specs.Packed.{unpacked}
+use Rattle.rules.specs.Meanings.{All}
+use Rattle.compose.specs.Paragraph.{size, paragraph, from, unitAt}
+use Rattle.compose.specs.Rows.{outer, bit, Rowed}
+use Rattle.compose.specs.declared.rows.UnitSums.{UnitSums}
+use Rattle.compose.specs.declared.rows.Joint.{Joint}
+
+abbrev pub Fine : Rec → Type 0
+Fine r = recOk r ≡ true
+
+-- answers 8 and 9 do not apply
+pub record Clean (ws : List ℕ) : Type 0 where
+  pub sound : badRecord 0 (paragraph ws) ≡ none
+  pub grouped : groupFault (paragraph ws) ≡ none
+
+pub record Scanning (ws : List ℕ) (start i : ℕ) : Type 0 where
+  pub few : size ws ≤ 256
+  pub within : i ≤ size ws
+  pub known : All Fine (take start (paragraph ws))
+  pub sound : All Fine (records ws i (size ws - i))
+  pub grouped : groupFault (records ws i (size ws - i)) ≡ none
+  pub apart : 0 < i → i < size ws → sameGroup (recAt ws (i - 1)) (recAt ws i) ≡ false
+
+-- the unit of the records from `first` up to `end`
+pub record UnitOf (ws : List ℕ) (first end base : ℕ) : Type 0 where
+  pub order : first < end
+  pub within : end ≤ size ws
+  pub few : size ws ≤ 256
+  pub unit : from ws first ≡ unitAt ws first ∷ from ws end
+  pub ends : first + count (unitAt ws first) ≡ end
+  pub few-records : count (unitAt ws first) ≤ 16
+  pub base-is : base ≡ baseTotal (unitAt ws first)
+  pub fine : All Fine (records ws first (size ws - first))
+
+pub record UnitBefore (ws : List ℕ) (start i : ℕ) (r : UnitSums) : Type 0 where
+  pub low : r .first ≤ i
+  pub ill : r .first ≡ i → Clean ws → ⊥
+  pub scanning : (r .first ≡ i → ⊥) → Scanning ws start (r .first)
+  pub unit : (r .first ≡ i → ⊥) → UnitOf ws (r .first) i (r .base)
+
+-- two units that follow each other, of sound records; the second one may be missing
+pub record ToJoin (ws : List ℕ) (first next : ℕ) : Type 0 where
+  pub order : first < next
+  pub within : next ≤ size ws
+  pub fine : All Fine (records ws first (size ws - first))
+
+-- gap and tie as the last row of the first unit is to have them
+pub record AfterUnit (ws : List ℕ) (first next : ℕ) (r : Joint) : Type 0 where
+  pub gap : (u : TextUnit) → u .first ≡ recAt ws first → unpacked (r .gap) ≡ outer u (from ws next) 0 .gap
+  pub tied : (u : TextUnit) → u .first ≡ recAt ws first → r .tied ≡ bit (outer u (from ws next) 0 .tied)
+
+-- the rows from record i on are filled
+pub record RowsFrom (ws : List ℕ) (start i : ℕ) (ds gs os : List ℕ) : Type 0 where
+  pub scanning : Scanning ws start i
+  pub rows : Rowed ws ds gs os i
+
+-- with room for all others
+pub record RowsScanned (ws : List ℕ) (start i : ℕ) (ds gs os : List ℕ) : Type 0 where
+  pub scanning : Scanning ws start i
+  pub rows : Rowed ws ds gs os i
+  pub advance-room : length ds ≡ 256
+  pub gap-room : length gs ≡ 256
+  pub offset-room : length os ≡ 256
+
+pub record UnitToFill (ws : List ℕ) (first end base gap tied : ℕ) (ds gs os : List ℕ) : Type 0 where
+  pub unit : UnitOf ws first end base
+  pub rows : Rowed ws ds gs os end
+  pub gap-is : unpacked gap ≡ outer (unitAt ws first) (from ws end) 0 .gap
+  pub tied-is : tied ≡ bit (outer (unitAt ws first) (from ws end) 0 .tied)
+  pub advance-room : length ds ≡ 256
+  pub gap-room : length gs ≡ 256
+  pub offset-room : length os ≡ 256
+
+-- with the rows of the unit that starts with record `first`
+pub record RowsFilled (ws : List ℕ) (first : ℕ) (ds gs os : List ℕ) : Type 0 where
+  pub rows : Rowed ws ds gs os first
+  pub advance-room : length ds ≡ 256
+  pub gap-room : length gs ≡ 256
+  pub offset-room : length os ≡ 256
+
+pub record UnitFilled (ws : List ℕ) (start i : ℕ) (ds gs os : List ℕ) (first : ℕ) : Type 0 where
+  pub low : first ≤ i
+  pub ill : first ≡ i → Clean ws → ⊥
+  pub scanned : (first ≡ i → ⊥) → RowsScanned ws start first ds gs os
+
+pub record Scanned (ws ds gs os : List ℕ) (b : Bool) : Type 0 where
+  pub clean : b ≡ true → Clean ws
+  pub rows : b ≡ true → Rowed ws ds gs os 0
+  pub ill : b ≡ false → Clean ws → ⊥

@@ -1,0 +1,259 @@
+// The rows of a paragraph, one for each record, filled from its end in one scan that asks answers 8 and 9 on its way.
+ghost use mathlib.Core.Path.{_≡_};
+ghost use Prim.Native.Nat.{_+_, _≤_, _<_};
+ghost use lib.ListN.{length, set};
+ghost use Rattle.rules.specs.Records.{recAt};
+ghost use Rattle.rules.specs.Sides.{sideBy};
+ghost use Rattle.rules.specs.Values.{sideOf, classTable, Laid};
+ghost use Rattle.compose.specs.Paragraph.{size};
+ghost use Rattle.compose.specs.Scan.{Scanning, Scanned, UnitFilled, UnitBefore, AfterUnit, ToJoin, RowsFrom, RowsScanned};
+ghost use Rattle.compose.specs.Scan.{UnitToFill, RowsFilled};
+use crate::checks::record_at;
+use crate::checks::same_group;
+use rules::Entry;
+use rules::Side;
+use rules::base_offset;
+use rules::break_forbidden;
+use rules::class_table;
+use rules::entry_words;
+use rules::gap_between;
+use rules::group_advance;
+use rules::record_ok;
+use rules::spacing_table;
+
+// A unit by its first record and its base total.
+pub(crate) struct UnitSums {
+    pub first: usize,
+    pub base: u32,
+}
+
+// What stands after a unit: the gap in one word, and 1 where the break is forbidden, else 0.
+pub(crate) struct Joint {
+    pub gap: u64,
+    pub tied: u32,
+}
+
+// The unit that ends before record `i`; or `i` itself as its first record, where answer 8 or 9 applies to one of its
+// records. Records before `start` are known to keep their own rules.
+fn unit_before(ws: &[u32], i: usize, start: usize, classes: &[u8; 28]) -> UnitSums
+    requires { ⌜ Scanning (now ws) start i × (0 < i) × (now classes ≡ classTable) ⌝ }
+    ensures { λ r. ⌜ UnitBefore (now (ws .entry)) start i r ⌝ }
+{
+    let none = UnitSums { first: i, base: 0 };
+    let mut first = i;
+    let mut base: u32 = 0;
+    loop {
+        let r = record_at(ws, first - 1);
+        if start < first {
+            if !record_ok(r, classes) {
+                return none;
+            }
+        }
+        first -= 1;
+        base += r.advance;
+        if first == 0 {
+            return UnitSums {
+                first: first,
+                base: base,
+            };
+        }
+        let p = record_at(ws, first - 1);
+        if !same_group(p.group, r.group) {
+            return UnitSums {
+                first: first,
+                base: base,
+            };
+        }
+        if !((p.size == r.size) & (p.ruby == r.ruby)) {
+            return none;
+        }
+        // a seventeenth record
+        if 16 <= i - first {
+            return none;
+        }
+    }
+}
+
+// What the neighbours of a unit that starts with record `i` see of it.
+fn side_at(ws: &[u32], i: usize) -> Side
+    requires { ⌜ i < size (now ws) ⌝ }
+    ensures { λ r. ⌜ sideOf r ≡ sideBy (recAt (now (ws .entry)) i) ⌝ }
+{
+    let r = record_at(ws, i);
+    Side {
+        class: if r.group == 0 { r.class } else { 19 },
+        size: r.size,
+        code: r.code,
+    }
+}
+
+// What stands between the unit that starts with record `first` and the next one, which starts with record `next`, if
+// there is one. The last three are the tables that a gap is looked up in.
+fn after_unit(
+    ws: &[u32],
+    first: usize,
+    next: usize,
+    classes: &[u8; 28],
+    spacing: &[[Entry; 18]; 18],
+    words: &[[u64; 2]; 10],
+) -> Joint
+    requires { ⌜ ToJoin (now ws) first next × Laid (now classes) (now spacing) (now words) ⌝ }
+    ensures { λ r. ⌜ AfterUnit (now (ws .entry)) first next r ⌝ }
+{
+    if ws.len() / 6 <= next {
+        return Joint { gap: 0, tied: 0 };
+    }
+    let l = side_at(ws, first);
+    let r = side_at(ws, next);
+    let tied = break_forbidden(l, r);
+    Joint {
+        gap: gap_between(l, r, tied, classes, spacing, words),
+        tied: if tied { 1 } else { 0 },
+    }
+}
+
+// Writes row `i`.
+pub(crate) fn put_row(
+    advances: &mut [u32],
+    gaps: &mut [u64],
+    offsets: &mut [u32],
+    i: usize,
+    advance: u32,
+    gap: u64,
+    offset: u32,
+)
+    requires { ⌜ (i < length (now advances)) × (i < length (now gaps)) × (i < length (now offsets)) ⌝ }
+    ensures advances { λ _. ⌜ now (advances .exit) ≡ set (now (advances .entry)) i advance ⌝ }
+    ensures gaps { λ _. ⌜ now (gaps .exit) ≡ set (now (gaps .entry)) i gap ⌝ }
+    ensures offsets { λ _. ⌜ now (offsets .exit) ≡ set (now (offsets .entry)) i offset ⌝ }
+{
+    advances[i] = advance;
+    gaps[i] = gap;
+    offsets[i] = offset;
+}
+
+// Writes the rows of the unit of the records from `first` up to `end`, from its base total and what stands after it.
+fn put_unit(
+    ws: &[u32],
+    first: usize,
+    end: usize,
+    base: u32,
+    gap: u64,
+    tied: u32,
+    advances: &mut [u32],
+    gaps: &mut [u64],
+    offsets: &mut [u32],
+)
+    requires { ⌜ UnitToFill (now ws) first end base gap tied (now advances) (now gaps) (now offsets) ⌝ }
+    ensures { λ _. ⌜ RowsFilled (now (ws .entry)) first (now (advances .exit)) (now (gaps .exit))
+        (now (offsets .exit)) ⌝ }
+{
+    let r = record_at(ws, first);
+    let records = (end - first) as u32;
+    let mut solid: u32 = 0;
+    let mut k: u32 = 0;
+    // the records before the last
+    while k + 1 < records {
+        let a = first + k as usize;
+        put_row(
+            advances,
+            gaps,
+            offsets,
+            a,
+            1,
+            0,
+            base_offset(base, r.ruby, r.size, records, k, solid),
+        );
+        let p = record_at(ws, a);
+        solid += p.advance;
+        k += 1;
+    }
+    put_row(
+        advances,
+        gaps,
+        offsets,
+        end - 1,
+        2 * group_advance(base, r.ruby, r.size) + tied,
+        gap,
+        base_offset(base, r.ruby, r.size, records, k, solid),
+    );
+}
+
+// Fills the rows of the unit that ends before record `i` and gives its first record; or gives `i`, where answer 8 or 9
+// applies to one of its records.
+fn fill_unit(
+    ws: &[u32],
+    i: usize,
+    start: usize,
+    classes: &[u8; 28],
+    spacing: &[[Entry; 18]; 18],
+    words: &[[u64; 2]; 10],
+    advances: &mut [u32],
+    gaps: &mut [u64],
+    offsets: &mut [u32],
+) -> usize
+    requires { ⌜ RowsScanned (now ws) start i (now advances) (now gaps) (now offsets) × (0 < i) ⌝ }
+    requires { ⌜ Laid (now classes) (now spacing) (now words) ⌝ }
+    ensures { λ r. ⌜ UnitFilled (now (ws .entry)) start i (now (advances .exit)) (now (gaps .exit))
+        (now (offsets .exit)) r ⌝ }
+{
+    let u = unit_before(ws, i, start, classes);
+    if u.first == i {
+        return i;
+    }
+    let joint = after_unit(ws, u.first, i, classes, spacing, words);
+    put_unit(
+        ws,
+        u.first,
+        i,
+        u.base,
+        joint.gap,
+        joint.tied,
+        advances,
+        gaps,
+        offsets,
+    );
+    u.first
+}
+
+// Fills the rows before record `end`, from there on filled already, and says whether answers 8 and 9 apply to no
+// record. Records before `start` are known to keep their own rules.
+pub(crate) fn fill_rows(
+    ws: &[u32],
+    start: usize,
+    end: usize,
+    advances: &mut [u32; 256],
+    gaps: &mut [u64; 256],
+    offsets: &mut [u32; 256],
+) -> bool
+    requires { ⌜ RowsFrom (now ws) start end (now advances) (now gaps) (now offsets) ⌝ }
+    ensures { λ b. ⌜ Scanned (now (ws .entry)) (now (advances .exit)) (now (gaps .exit)) (now (offsets .exit)) b ⌝ }
+{
+    // laid down once for all records
+    let classes = class_table();
+    let spacing = spacing_table();
+    let words = entry_words();
+    // lent as slices, so that the proof knows their lengths
+    let row_advances = &mut advances[..];
+    let row_gaps = &mut gaps[..];
+    let row_offsets = &mut offsets[..];
+    let mut i = end;
+    while 0 < i {
+        let first = fill_unit(
+            ws,
+            i,
+            start,
+            &classes,
+            &spacing,
+            &words,
+            row_advances,
+            row_gaps,
+            row_offsets,
+        );
+        if first == i {
+            return false;
+        }
+        i = first;
+    }
+    true
+}
