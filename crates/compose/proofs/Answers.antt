@@ -27,7 +27,7 @@ use Rattle.compose.specs.Paragraph.{size, paragraph, Checked, placeOr}
 use Rattle.compose.specs.Lines.{firsts, broken, composed, Broken}
 use Rattle.compose.specs.Rows.{Rowed}
 use Rattle.compose.specs.Scan.{Clean, Scanned}
-use Rattle.compose.specs.Composed.{RecordsJudged, RowsJudged, Kept, Started}
+use Rattle.compose.specs.Composed.{RowsJudged, Kept, Started}
 
 -- a place below n names an answer; n itself names none, where answers name places below n
 pub named : (n r : ℕ) (o : Option ℕ) → r ≡ placeOr n o → r < n → o ≡ some r

@@ -6,14 +6,14 @@ use native.Mathlib.Omega.{arith}
 use native.Mathlib.Nat.{add-zero, sub-zero}
 use mathlib.Core.Bool.{true, false, _&&_}
 use mathlib.Core.List.{List, [], _∷_, _++_, append-nil}
-use mathlib.Core.Logic.{_⊎_, inl, inr}
+use mathlib.Core.Logic.{inl, inr}
 use mathlib.Core.Option.{Option, none, some}
 use lib.Dec.{eqb, ltb}
 use lib.ListN.{length, take, drop, getD, take-append-drop, length-drop}
 use borrow.Author.Tests.{ltb-true, lt-ltb}
 use Rattle.rules.specs.Basics.{cut}
 use Rattle.rules.specs.Records.{Rec, recAt, records}
-use Rattle.rules.specs.Groups.{TextUnit, sameGroup, badGroup, groupFault, units, counts}
+use Rattle.rules.specs.Groups.{sameGroup, badGroup, groupFault, units, counts}
 use Rattle.rules.specs.Meanings.{All, lastOf}
 use Rattle.rules.proofs.Facts.{tested, ordered, some-none}
 use Rattle.rules.proofs.Cuts.{cut-split}
@@ -24,7 +24,7 @@ use Rattle.rules.proofs.GroupedRecords.{all-fine}
 use Rattle.rules.proofs.Words.{length-records, take-records}
 use Rattle.compose.specs.Paragraph.{size, paragraph, from, headOr}
 use Rattle.compose.specs.Rows.{Row, RowIs, Held, held-none, held-more, rowsOf, Rowed}
-use Rattle.compose.specs.Scan.{Fine, Scanning, RowsFrom}
+use Rattle.compose.specs.Scan.{Fine, RowsFrom}
 use Rattle.compose.specs.Composed.{Kept}
 use Rattle.compose.specs.Kept.{UnitFrom, RowsMoved, KeptFrom}
 use Rattle.compose.proofs.Walk.{records-from, records-left}

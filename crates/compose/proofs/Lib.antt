@@ -1,30 +1,35 @@
--- Laws of a paragraph's units, runs and lines, as the composer's loops meet them.
-pub mod Answers
-pub mod Faults
-pub mod FirstLine
-pub mod Limits
-pub mod Pastes
-pub mod PlaceWords
-pub mod Stretches
-pub mod GapSums
-pub mod Rates
-pub mod Floors
-pub mod HeldRows
-pub mod RowPlaces
-pub mod LinePlaces
-pub mod Composed
-pub mod LineByLine
+-- Laws of a paragraph's units, rows and lines, as the composer's loops meet them.
+-- units and answers
 pub mod Walk
-pub mod RunWalk
-pub mod LongestLine
-pub mod LineSearch
-pub mod LineFound
-pub mod LinesDue
-pub mod KeptRows
-pub mod RowsMoved
+pub mod Faults
+pub mod Answers
+-- the scan that fills the rows: `unit_before`, `after_unit`, `put_unit`, `fill_unit` and `fill_rows`
+pub mod Limits
 pub mod GroupScan
-pub mod Joints
 pub mod UnitWalk
+pub mod Joints
 pub mod RowsStored
 pub mod UnitRows
 pub mod RowScan
+pub mod HeldRows
+-- the rows that an edit keeps: `keep_rows`
+pub mod RowsMoved
+pub mod KeptRows
+-- the breaking: `longest_line` and `break_lines`
+pub mod GapSums
+pub mod LineRuns
+pub mod LongestLine
+pub mod LineSearch
+pub mod LineAt
+pub mod LineFound
+pub mod LinesLeft
+pub mod LinesDue
+-- the places: `place_at`, `place_line`, `compose_line` and `compose_lines`
+pub mod Rates
+pub mod Floors
+pub mod RowPlaces
+pub mod LinePlaces
+pub mod Composed
+pub mod Pastes
+pub mod LineWords
+pub mod LineByLine

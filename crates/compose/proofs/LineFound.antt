@@ -1,14 +1,13 @@
 -- What `longest_line` gives: the search from its first row, and the line that it ends with. Assumes nothing.
-use mathlib.Core.Path.{_≡_, refl, ap, sym, subst, _∙_}
+use mathlib.Core.Path.{_≡_, ap, sym, subst, _∙_}
 use Prim.Native.Nat.{ℕ, _+_, _-_, _≤_, _<_}
 use native.Mathlib.Omega.{arith}
-use mathlib.Core.List.{List, _∷_, _++_}
-use mathlib.Core.Logic.{_⊎_, inl, inr}
-use lib.ListN.{length}
+use mathlib.Core.List.{List}
+use mathlib.Core.Logic.{inl, inr}
 use Rattle.rules.specs.Basics.{whole}
 use Rattle.rules.specs.Groups.{counts}
 use Rattle.rules.specs.Records.{records}
-use Rattle.rules.specs.Breaks.{width, runs, wideRun, breaking}
+use Rattle.rules.specs.Breaks.{runs, wideRun, breaking}
 use Rattle.rules.specs.Adjustment.{nothing}
 use Rattle.rules.specs.Packed.{AtMost, unpacked}
 use Rattle.rules.proofs.Lengths.{counts-units}
@@ -17,15 +16,15 @@ use Rattle.rules.proofs.Words.{length-records}
 use Rattle.compose.specs.Paragraph.{size, from, unitAt, nextAt}
 use Rattle.compose.specs.Rows.{rowsOf}
 use Rattle.compose.specs.Lines.{lineAt}
-use Rattle.compose.specs.LineFrom.{LineDue, LineTaken, SumsAre, LineFrom}
+use Rattle.compose.specs.LineFrom.{LineDue, LineFrom}
 use Rattle.compose.specs.declared.breaking.LineSums.{LineSums}
 use Rattle.compose.proofs.GapSums.{nothing-yet}
 use Rattle.compose.proofs.HeldRows.{length-rowsOf}
-use Rattle.compose.proofs.LongestLine.{Best, noLine, bestOf, byUnits, Chosen, Found, found, width-sums}
+use Rattle.compose.proofs.LongestLine.{noLine, byUnits, Chosen, Found, found}
+use Rattle.compose.proofs.LineRuns.{width-sums}
 use Rattle.compose.proofs.LineSearch.{by-rows, bestBy, given, Search}
-use Rattle.compose.proofs.RunWalk.{from-after}
-use Rattle.compose.proofs.Stretches.{line-is}
-use Rattle.compose.proofs.Walk.{unit-step}
+use Rattle.compose.proofs.LineAt.{line-is}
+use Rattle.compose.proofs.Walk.{unit-step, from-after}
 
 counts-from : (ws : List ℕ) (i : ℕ) → i ≤ size ws → i + counts (from ws i) ≡ size ws
 unfolding from

@@ -1,9 +1,9 @@
 -- The loop of `longest_line`, as steps from row to row: what is left from a record on gives what the whole gives.
 -- Assumes nothing.
-use mathlib.Core.Path.{_≡_, refl, ap, sym, _∙_}
+use mathlib.Core.Path.{_≡_, refl, ap, _∙_}
 use Prim.Native.Nat.{ℕ, _+_, _*_, _-_, _/_, _%_, _≤_, _<_}
 use native.Mathlib.Omega.{arith}
-use native.Mathlib.Nat.{add-assoc, add-zero}
+use native.Mathlib.Nat.{add-zero}
 use mathlib.Core.Bool.{true, false, cond}
 use mathlib.Core.List.{List, [], _∷_, _++_}
 use mathlib.Core.Logic.{inl, inr}
@@ -18,10 +18,10 @@ use Rattle.rules.proofs.Facts.{tested, ordered}
 use Rattle.rules.proofs.Lengths.{length-baseOffsets}
 use Rattle.rules.proofs.Packed.{at-most-255, least-unpacked}
 use Rattle.compose.specs.Paragraph.{size, from}
-use Rattle.compose.specs.Rows.{Row, inner, outer, unitRows, rowsOf, bit, RowIs, Held, held-more, held-none}
+use Rattle.compose.specs.Rows.{Row, outer, unitRows, rowsOf, bit, RowIs, Held, held-more, held-none}
 use Rattle.compose.specs.LineFrom.{LineDue}
 use Rattle.compose.specs.declared.breaking.LineSums.{LineSums}
-use Rattle.compose.proofs.GapSums.{plus-nothing, at-most-more, nothing-yet}
+use Rattle.compose.proofs.GapSums.{plus-nothing, at-most-more}
 use Rattle.compose.proofs.LongestLine.{Best, noLine, byUnits}
 
 -- the search by rows -----------------------------------------------------------------------------------------------

@@ -1,87 +1,28 @@
 -- The loop that breaks lines, as steps: what is left from a record on gives what the whole paragraph gives.
 -- Assumes nothing.
-use mathlib.Core.Path.{_≡_, refl, ap, sym, subst, _∙_}
+use mathlib.Core.Path.{_≡_, refl, ap, sym, _∙_}
 use Prim.Native.Nat.{ℕ, suc, _+_, _-_, _≤_, _<_}
 use native.Mathlib.Omega.{arith}
-use native.Mathlib.Nat.{sub-zero}
 use native.Mathlib.Numerals.{add-one}
 use mathlib.Core.List.{List, [], _∷_, _++_, append-assoc, append-nil}
-use mathlib.Core.Option.{none, some}
+use mathlib.Core.Option.{some}
 use lib.ListN.{length, take, set, length-set}
 use lib.Seq.{take-suc-set, length-take-le}
 use Rattle.rules.specs.Basics.{Run, whole}
-use Rattle.rules.specs.Groups.{TextUnit, units, counts}
-use Rattle.rules.specs.Breaks.{runs, wideRun, noBreaking, breaking}
+use Rattle.rules.specs.Groups.{TextUnit, counts}
+use Rattle.rules.specs.Breaks.{runs, wideRun, breaking}
 use Rattle.rules.proofs.Facts.{some-none}
-use Rattle.compose.specs.Paragraph.{size, paragraph, from, placeOr}
-use Rattle.compose.specs.Rows.{rowsOf, Rowed, Held}
-use Rattle.compose.specs.Lines.{firsts, lineAt, broken, Broken}
-use Rattle.compose.specs.LineFrom.{LineDue, LineTaken, LineFrom, ToBreak, stopOf, BrokenTo}
-use Rattle.compose.specs.declared.breaking.LineSums.{LineSums}
+use Rattle.compose.specs.Paragraph.{size, from}
+use Rattle.compose.specs.Lines.{firsts, broken}
+use Rattle.compose.specs.LineFrom.{LineTaken, ToBreak, BrokenTo}
 use Rattle.compose.specs.declared.breaking.Stop.{Stop}
-use Rattle.compose.proofs.HeldRows.{held-after}
-use Rattle.compose.proofs.RunWalk.{runs-end}
-
--- the paragraph's units are those from its first record on
-pub from-start : (ws : List ℕ) → from ws 0 ≡ units (paragraph ws)
-unfolding from
-from-start ws = rw sub-zero
+use Rattle.compose.proofs.Walk.{runs-end}
+use Rattle.compose.proofs.LinesLeft.{Left, from-start, left-start, left-none, left-stop, left-more}
 
 length-firsts : (i : ℕ) (ls : List (Run TextUnit)) → length (firsts i ls) ≡ length ls
 unfolding firsts
 length-firsts i [] = refl
 length-firsts i (l ∷ ls) = ap suc (length-firsts (i + counts (whole l)) ls)
-
--- what is left from record i on, where a line starts at `start`: its rows, and the place of answer 10
-pub record Left (ws ds gs os : List ℕ) (m x i start : ℕ) : Type 0 where
-  pub few : size ws ≤ 256
-  pub within : i ≤ size ws
-  pub rows : Rowed ws ds gs os i
-  pub measure : m ≤ 1000000
-  pub indent : start ≤ 1000000
-  pub wide : wideRun m start i (runs (from ws i)) ≡ noBreaking m x (units (paragraph ws))
-
-module _ {ws ds gs os : List ℕ} {m x : ℕ} where
-  pub left-start : ToBreak ws ds gs os m x → Left ws ds gs os m x 0 x
-  unfolding noBreaking
-  left-start p =
-      record {
-        few = p .few;
-        within = omega arith;
-        rows = p .rows;
-        measure = p .measure;
-        indent = p .indent;
-        wide = rw from-start;
-      }
-
-  module _ {i start : ℕ} (q : Left ws ds gs os m x i start) where
-    -- nothing is left, and every run fits
-    pub left-none : size ws ≤ i → noBreaking m x (units (paragraph ws)) ≡ none
-    unfolding wideRun
-    left-none h = sym (q .wide) ∙ rw (runs-end ws i h)
-
-    pub left-line : i < size ws → LineDue ws ds gs os i m start
-    left-line h = record { few = q .few; inside = h; rows = q .rows; measure = q .measure; indent = q .indent }
-
-    -- no line fits
-    pub left-stop : wideRun m start i (runs (from ws i)) ≡ some i → noBreaking m x (units (paragraph ws)) ≡ some i
-    left-stop e = sym (q .wide) ∙ e
-
-    -- one line is taken
-    pub left-more : {j : ℕ} → LineTaken ws m start i j → Left ws ds gs os m x j 0
-    left-more {j} t =
-        let h : Held ds gs os i (rowsOf (whole (lineAt ws i j) ++ from ws j)) =
-        subst (λ us. Held ds gs os i (rowsOf us)) (sym (t .joins-up)) (q .rows) in
-        record {
-          few = q .few;
-          within = t .within;
-          rows =
-              subst (λ k. Held ds gs os k (rowsOf (from ws j))) (t .ends)
-              (held-after (whole (lineAt ws i j)) (from ws j) h);
-          measure = q .measure;
-          indent = omega arith;
-          wide = sym (t .wide) ∙ q .wide;
-        }
 
 -- a line is due: it starts with record i, and the first records of the lines before it are written
 pub record Due (ws ds gs os : List ℕ) (m x : ℕ) (starts : List ℕ) (lines i start : ℕ) : Type 0 where

@@ -1,8 +1,8 @@
--- A paragraph's units, one after the other, as the loops meet them. Assumes nothing.
+-- A paragraph's units and runs, one after the other, as the loops meet them. Assumes nothing.
 use mathlib.Core.Path.{_≡_, refl, ap, sym, _∙_}
 use Prim.Native.Nat.{ℕ, suc, _+_, _-_, _≤_, _<_}
 use native.Mathlib.Omega.{arith}
-use native.Mathlib.Nat.{zero-add}
+use native.Mathlib.Nat.{zero-add, add-zero}
 use mathlib.Core.Bool.{Bool, cond}
 use mathlib.Core.List.{List, [], _∷_, _++_}
 use mathlib.Core.Logic.{inl, inr}
@@ -10,8 +10,9 @@ use lib.ListN.{length, drop, length-append}
 use lib.Seq.{drop-at}
 use Rattle.rules.specs.Basics.{Run, alone, whole, then, joined, tie, cut}
 use Rattle.rules.specs.Records.{recAt, records}
-use Rattle.rules.specs.Groups.{TextUnit, sameGroup, units, count}
-use Rattle.rules.proofs.Facts.{tested}
+use Rattle.rules.specs.Groups.{TextUnit, sameGroup, units, count, counts}
+use Rattle.rules.specs.Breaks.{bound, runs}
+use Rattle.rules.proofs.Facts.{tested, ordered, nil-cons}
 use Rattle.rules.proofs.Words.{length-records, drop-records}
 use Rattle.rules.proofs.Cuts.{cut-joined, cut-first, cut-tail}
 use Rattle.compose.specs.Paragraph.{size, paragraph, from, headOr, unitAt, nextAt}
@@ -105,3 +106,34 @@ unit-more ws i h =
     ∙ tie-head sameGroup (recAt ws i) _ (unitAt ws (i + 1)) _
     ∙ ap (λ r. cond (sameGroup (recAt ws i) r) (then (alone (recAt ws i)) (unitAt ws (i + 1))) (alone (recAt ws i)))
     (s .first)
+
+-- units after others, and runs ---------------------------------------------------------------------------------------
+
+-- after some units stand those of the records after them
+pub from-after : (ws : List ℕ) (i : ℕ) (us vs : List TextUnit) → i ≤ size ws → us ++ vs ≡ from ws i →
+    (vs ≡ from ws (i + counts us)) × (i + counts us ≤ size ws)
+unfolding counts
+from-after ws i [] vs h e = (rw add-zero e, omega arith)
+from-after ws i (u ∷ us) vs h e =
+    elim (ordered i (size ws)) [
+      | inl g ↦
+          let s = unit-step ws i g in
+          let p : u ≡ unitAt ws i = cc in
+          let q : us ++ vs ≡ from ws (nextAt ws i) = cc in
+          let r = from-after ws (nextAt ws i) us vs (s .within) q in
+          let n : nextAt ws i + counts us ≡ i + (count u + counts us) = rw p (omega arith) in
+          rw n at r
+      | inr g ↦ absurd (nil-cons (sym (e ∙ from-end ws i g)))
+    ]
+
+pub runs-end : (ws : List ℕ) (i : ℕ) → size ws ≤ i → runs (from ws i) ≡ []
+unfolding runs cut
+runs-end ws i h = rw (from-end ws i h)
+
+-- where a record is left, a run is
+pub runs-some : (ws : List ℕ) (i : ℕ) → i < size ws →
+    (l : Run TextUnit) × (ls : List (Run TextUnit)) × (runs (from ws i) ≡ l ∷ ls)
+unfolding runs
+runs-some ws i h =
+    let f = cut-first bound (unitAt ws i) (from ws (nextAt ws i)) in
+    (f .0, f .1, ap (λ us. cut bound us) (unit-step ws i h .rest) ∙ f .2)

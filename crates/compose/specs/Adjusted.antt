@@ -18,7 +18,7 @@ use lib.Seq.{paste}
 use Rattle.rules.specs.Basics.{whole}
 use Rattle.rules.specs.Groups.{units, counts}
 use Rattle.rules.specs.Gaps.{Gap}
-use Rattle.rules.specs.Breaks.{width, noBreaking}
+use Rattle.rules.specs.Breaks.{noBreaking}
 use Rattle.rules.specs.Adjustment.{Amounts, Line, nothing, gapsOf, placed, lineOf}
 use Rattle.rules.specs.Sheet.{placesOf}
 use Rattle.rules.specs.Packed.{Packs, AtMost}

@@ -5,17 +5,16 @@
 --
 -- Assumes nothing.
 use mathlib.Core.Path.{_≡_}
-use Prim.Native.Nat.{ℕ, zero, suc, _+_, _*_, _-_, _≤_}
+use Prim.Native.Nat.{ℕ, zero, suc, _+_, _*_, _-_}
 use mathlib.Core.List.{List, [], _∷_}
 use lib.ListN.{length, take}
 use Rattle.rules.specs.Basics.{Run, whole}
 use Rattle.rules.specs.Groups.{TextUnit, units, count, counts}
 use lib.Seq.{paste}
-use mathlib.Core.Option.{none}
-use Rattle.rules.specs.Breaks.{runs, breaking, noBreaking}
+use Rattle.rules.specs.Breaks.{runs, breaking}
 use Rattle.rules.specs.Adjustment.{Line, compose}
 use Rattle.rules.specs.Sheet.{placeWords, lineWords}
-use Rattle.compose.specs.Paragraph.{size, paragraph, from, unitAt, nextAt, Checked}
+use Rattle.compose.specs.Paragraph.{size, paragraph, from, unitAt, nextAt}
 
 unfoldable pub firsts : ℕ → List (Run TextUnit) → List ℕ
 firsts i [] = []

@@ -1,27 +1,22 @@
--- A paragraph as the program holds it, six words to a record, and its units, gaps and runs by their first record.
+-- A paragraph as the program holds it, six words to a record, and its units by their first record.
 --
 --   size         the number of records
 --   from         the units of the records from record i on
 --   unitAt       the unit that starts with record i; nextAt: the record after it
---   runAt        the run, between neighbouring permitted breaks, that starts with record i; runEnd: the one after it
 --   listed but   the records but those from record `start` up to `end` stand in the lists of their classes
 --   checked      a paragraph of at most 256 records, to which answers 8, 12 and 9 do not apply
 --
--- A unit or run by a record inside a group is what the rules make of the records from there on. No answer hangs on it:
--- `all_narrow` reads every row, but only to pass over the search, which looks at the runs alone. Assumes nothing.
+-- A unit by a record inside a group is what the rules make of the records from there on. Assumes nothing.
 use mathlib.Core.Path.{_≡_}
 use Prim.Native.Nat.{ℕ, _+_, _-_, _/_, _≤_}
 use mathlib.Core.List.{List, [], _∷_}
 use mathlib.Core.Option.{Option, none, some}
 use mathlib.Core.Bool.{true}
 use lib.ListN.{length, take, drop}
-use Rattle.rules.specs.Basics.{Run, alone, whole}
+use Rattle.rules.specs.Basics.{alone}
 use Rattle.rules.specs.Records.{Rec, recAt, records, badRecord}
 use Rattle.rules.specs.Listed.{isListed, notListed}
-use Rattle.rules.specs.Sides.{sideBy}
-use Rattle.rules.specs.Groups.{TextUnit, units, count, counts, groupFault}
-use Rattle.rules.specs.Gaps.{Gap, gapOf}
-use Rattle.rules.specs.Breaks.{runs}
+use Rattle.rules.specs.Groups.{TextUnit, units, count, groupFault}
 use Rattle.rules.specs.Meanings.{All}
 
 abbrev pub size : List ℕ → ℕ
@@ -43,16 +38,6 @@ unitAt ws i = headOr (alone (recAt ws i)) (from ws i)
 
 abbrev pub nextAt : List ℕ → ℕ → ℕ
 nextAt ws i = i + count (unitAt ws i)
-
--- the gap after the unit that starts with record i
-unfoldable pub gapAfter : List ℕ → ℕ → Gap
-gapAfter ws i = gapOf (sideBy (recAt ws i)) (sideBy (recAt ws (nextAt ws i)))
-
-unfoldable pub runAt : List ℕ → ℕ → Run TextUnit
-runAt ws i = headOr (alone (unitAt ws i)) (runs (from ws i))
-
-abbrev pub runEnd : List ℕ → ℕ → ℕ
-runEnd ws i = i + counts (whole (runAt ws i))
 
 -- a record's code point stands in the list of its class
 abbrev pub IsListed : Rec → Type 0

@@ -4,7 +4,8 @@ use mathlib.Core.Path.{refl}
 use Prim.Native.Nat.{_-_}
 use native.Mathlib.Omega.{arith}
 use borrow.Author.Needs.{needs}
-use Rattle.compose.proofs.LinesDue.{Due, left-line, due-start, due-more, due-stop, due-end}
+use Rattle.compose.proofs.LinesLeft.{left-line}
+use Rattle.compose.proofs.LinesDue.{Due, due-start, due-more, due-stop, due-end}
 use Rattle.compose.proofs.breaking.break_lines.Statement.{statement}
 use Rattle.compose.proofs.breaking.break_lines.Tie as tie
 

@@ -1,7 +1,6 @@
 -- `compose::kept::unit_from` meets its contract. Assumes nothing.
 use mathlib.Core.Path.{sym, _∙_}
 use Prim.Native.Nat.{_-_}
-use native.Mathlib.Omega.{arith}
 use borrow.Author.Needs.{needs}
 use borrow.Author.Tests.{not-true, not-false}
 use Rattle.compose.proofs.RowsMoved.{InGroup, from-end, from-none, group-start, group-more, group-ends}

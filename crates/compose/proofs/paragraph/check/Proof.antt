@@ -1,14 +1,10 @@
 -- `compose::paragraph::check` meets its contract: the records are judged, then broken into lines. Assumes nothing.
-use mathlib.Core.Path.{_≡_, _∙_}
+use mathlib.Core.Path.{_∙_}
 use mathlib.Core.List.{List}
-use mathlib.Core.Option.{none}
 use Prim.Native.Nat.{ℕ}
 use native.Mathlib.Omega.{arith}
 use denote.Ref.{now}
-use borrow.Author.Needs.{needs}
-use Rattle.rules.specs.Groups.{units}
-use Rattle.rules.specs.Breaks.{noBreaking}
-use Rattle.compose.specs.Paragraph.{size, paragraph, Checked}
+use Rattle.compose.specs.Paragraph.{size, Checked}
 use Rattle.compose.proofs.Answers.{named, no-10, judged-10, lines-within, started, not-started}
 use Rattle.compose.proofs.Faults.{all-new}
 use Rattle.compose.proofs.RowScan.{rows-none}

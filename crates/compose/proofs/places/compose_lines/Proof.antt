@@ -3,7 +3,8 @@
 use Prim.Native.Nat.{_-_}
 use native.Mathlib.Omega.{arith}
 use Rattle.compose.specs.Paragraph.{size}
-use Rattle.compose.proofs.LineByLine.{LinesToCome, lines-start, places-length, lines-length, line-due}
+use Rattle.compose.proofs.LineByLine.{LinesToCome, lines-start, places-length, lines-length}
+use Rattle.compose.proofs.LinesLeft.{left-line}
 use Rattle.compose.proofs.LineByLine.{lines-stop, line-to-compose, lines-more, lines-done}
 use Rattle.compose.proofs.places.compose_lines.Statement.{statement}
 use Rattle.compose.proofs.places.compose_lines.Tie as tie
@@ -32,7 +33,7 @@ loop-holds : tie.Need-loop-holds Inv-loop μ-loop
 loop-holds c = lines-start (c .before .before .before .pre)
 
 longest-line-requires : tie.Need-longest-line-requires Inv-loop μ-loop
-longest-line-requires c κs = line-due (start (c .before) .pre) (c .before .loop .inv) (c .loop-test .taken)
+longest-line-requires c κs = left-line (c .before .loop .inv .left) (c .loop-test .taken)
 
 same-length : tie.Need-same-length Inv-loop μ-loop
 same-length c = let h = due (c .before .before) in places-length (start h .pre) (h .loop .inv)
@@ -57,7 +58,7 @@ compose-line-requires c κs =
 add-k : tie.Need-add-k Inv-loop μ-loop
 add-k c =
     let h = due (fits (written c .before) .before .before) in
-    omega (arith, h .loop .inv .few, h .loop .inv .within, start h .pre .few)
+    omega (arith, h .loop .inv .few, h .loop .inv .left .within, start h .pre .few)
 
 loop-less : tie.Need-loop-less Inv-loop μ-loop
 loop-less c =

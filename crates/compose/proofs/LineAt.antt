@@ -1,6 +1,6 @@
--- The units between two records. Assumes nothing.
+-- The line between two records is the one that ends there. Assumes nothing.
 use mathlib.Core.Path.{_≡_, refl, ap, sym}
-use Prim.Native.Nat.{ℕ, suc, _+_, _-_, _≤_, _<_}
+use Prim.Native.Nat.{ℕ, suc, _+_, _-_, _<_}
 use native.Mathlib.Omega.{arith}
 use mathlib.Core.List.{List, [], _∷_, _++_}
 use lib.ListN.{length}
@@ -14,21 +14,6 @@ upTo-zero : (us : List TextUnit) → upTo 0 us ≡ []
 unfolding upTo
 upTo-zero [] = refl
 upTo-zero (u ∷ us) = refl
-
--- a line that goes on past its first unit
-pub line-more : (ws : List ℕ) (i j : ℕ) → nextAt ws i < j → j ≤ size ws →
-    lineAt ws i j .rest ≡ whole (lineAt ws (nextAt ws i) j)
-unfolding lineAt upTo
-line-more ws i j h k =
-    let n = nextAt ws i in
-    let e : j - n ≡ suc (j - suc n) = omega arith in
-    let f : suc (j - suc n) - count (unitAt ws n) ≡ j - (n + count (unitAt ws n)) = omega arith in
-    rw (unit-step ws n (omega arith) .rest, e, upTo, f)
-
--- a line of one unit
-pub line-last : (ws : List ℕ) (i j : ℕ) → j ≤ nextAt ws i → lineAt ws i j .rest ≡ []
-unfolding lineAt
-line-last ws i j h = let e : j - nextAt ws i ≡ 0 = omega arith in rw (e, upTo-zero)
 
 -- the units of whole lines are taken back whole
 upTo-all : (us vs : List TextUnit) → upTo (counts us) (us ++ vs) ≡ us
