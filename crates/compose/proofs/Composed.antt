@@ -46,6 +46,7 @@ module _ {ws ds gs os places lines : List ℕ} {i : ℕ} {l : LineSums} {k m x :
         shrink₂ = omega (arith, ap (λ v. v .shrink₂) a, ap (λ v. v .shrink₂) g, t .shrink₂);
         stretch₁ = rw a (omega (arith, t .under, p .measure));
         stretch₂ = rw a (omega (arith, t .under, p .measure));
+        one-way = rw a (λ h. omega (arith, h, t .over, t .under, o));
         total = rw u (p .sums .gaps-limit);
         packs = rw u (p .sums .packs);
       }

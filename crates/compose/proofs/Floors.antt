@@ -2,6 +2,7 @@
 use mathlib.Core.Path.{_≡_}
 use Prim.Native.Nat.{ℕ, _+_, _*_, _-_, _/_, _≤_}
 use native.Mathlib.Omega.{arith}
+use native.Mathlib.Nat.{zero-mul, zero-div}
 use Rattle.rules.specs.Gaps.{Gap}
 use Rattle.rules.specs.Adjustment.{Amounts, plus, nothing, adjusted}
 use Rattle.rules.proofs.Shares.{share-up, share-cap, none-yet}
@@ -95,3 +96,23 @@ movable {r} {e} {c} {solid} {s} p =
 
 pub place-limit : {solid space : ℕ} {f : Amounts} → Movable solid space f → placeAfter solid space f ≤ 100000000
 place-limit m = omega (arith, m .solid-limit, m .space-limit, m .limit₁, m .limit₂)
+
+-- no amount, no floor
+floor-of-none : (e s c : ℕ) → e ≡ 0 → e * s / c ≡ 0
+floor-of-none e s c h = rw (h, zero-mul, zero-div)
+
+-- a place from the floors of the two stages that a line is adjusted by
+module _ (e : Amounts) (c : Gap) (solid : ℕ) (s : Gap) {x y : ℕ} where
+  pub place-shrunk : e .stretch₁ + e .stretch₂ ≡ 0 → x ≡ floors e c s .shrink₁ → y ≡ floors e c s .shrink₂ →
+      solid + (s .space - x - y) ≡ placeBy e c solid s
+  place-shrunk h p q =
+      let v = floor-of-none (e .stretch₁) (s .stretch₁) (c .stretch₁) (omega arith) in
+      let w = floor-of-none (e .stretch₂) (s .stretch₂) (c .stretch₂) (omega arith) in
+      omega (arith, p, q, v, w)
+
+  pub place-stretched : e .shrink₁ + e .shrink₂ ≡ 0 → x ≡ floors e c s .stretch₁ → y ≡ floors e c s .stretch₂ →
+      solid + s .space + x + y ≡ placeBy e c solid s
+  place-stretched h p q =
+      let v = floor-of-none (e .shrink₁) (s .shrink₁) (c .shrink₁) (omega arith) in
+      let w = floor-of-none (e .shrink₂) (s .shrink₂) (c .shrink₂) (omega arith) in
+      omega (arith, p, q, v, w)

@@ -19,7 +19,6 @@ use Rattle.rules.specs.Meanings.{EndsWell, at-end, at-break}
 use Rattle.rules.proofs.Facts.{tested, ordered}
 use Rattle.rules.proofs.Cuts.{last-append}
 use Rattle.rules.proofs.NoBreaking.{counts-append}
-use Rattle.rules.proofs.Widths.{wider}
 use Rattle.compose.specs.Rows.{outer}
 use Rattle.compose.proofs.LineRuns.{width-sums, advances-append, totals-append, run-alone, narrower, tied-longer}
 use Rattle.compose.proofs.LineRuns.{first-run, run-wider, line-wider}

@@ -1,66 +1,140 @@
 -- The scan of the rows, unit by unit: what `fill_unit` hands on, and how `fill_rows` ends. Assumes nothing.
-use mathlib.Core.Path.{_≡_, refl, sym}
-use Prim.Native.Nat.{ℕ, _≤_, _<_}
+use mathlib.Core.Path.{_≡_, refl, ap, sym, _∙_}
+use Prim.Native.Nat.{ℕ, _+_, _*_, _-_, _≤_, _<_}
 use native.Mathlib.Omega.{arith}
 use native.Mathlib.Nat.{sub-zero}
-use mathlib.Core.Bool.{true, false}
+use mathlib.Core.Bool.{Bool, true, false}
 use mathlib.Core.List.{List}
 use mathlib.Core.Logic.{inl, inr}
-use Rattle.rules.specs.Records.{recOk, badRecord}
-use Rattle.rules.specs.Groups.{groupFault}
+use lib.Dec.{ltb}
+use lib.ListN.{set}
+use borrow.Author.Tests.{eqb-true}
+use Rattle.rules.specs.Records.{Rec, recAt, groupOk, recOk, badRecord}
+use Rattle.rules.specs.Groups.{groupFault, shift, baseOffset, groupAdvance}
+use Rattle.rules.specs.Sides.{Side, sideBy}
+use Rattle.rules.specs.Values.{sideOf, SideOk}
+use Rattle.rules.specs.declared.groups.Side.{Side as SideValue}
 use Rattle.rules.specs.Meanings.{all-none}
 use Rattle.rules.proofs.Facts.{ordered, true-false}
 use Rattle.rules.proofs.FirstFailing.{all-pass}
-use Rattle.compose.specs.Scan.{UnitBefore, ToJoin, AfterUnit, RowsScanned, UnitToFill, RowsFilled, UnitFilled}
-use Rattle.compose.specs.Scan.{RowsFrom, Scanned}
+use Rattle.rules.proofs.Limits.{asked}
+use Rattle.compose.specs.Scan.{Fine, Clean, Scanning, UnitBefore, AfterUnit, SideFrom, RowsScanned, UnitToFill}
+use Rattle.compose.specs.Scan.{RowsFilled, UnitFilled, RowsFrom, Scanned}
 use Rattle.compose.specs.Rows.{rowsOf, held-none}
 use Rattle.compose.specs.Paragraph.{size}
 use Rattle.compose.specs.declared.rows.UnitSums.{UnitSums}
+use Rattle.compose.specs.declared.rows.UnitDone.{UnitDone}
 use Rattle.compose.specs.declared.rows.Joint.{Joint}
-use Rattle.compose.proofs.Walk.{from-end, unit-step}
+use Rattle.compose.proofs.Walk.{from-end}
 use Rattle.compose.proofs.Faults.{records-end}
+use Rattle.compose.proofs.Limits.{side-limits}
+use Rattle.compose.proofs.Joints.{gap-after, tie-after}
+use Rattle.compose.proofs.UnitWalk.{unit-alone}
+use Rattle.compose.proofs.UnitRows.{fill-start, fill-done}
 
-module _ {ws : List ℕ} {start i : ℕ} {u : UnitSums} (b : UnitBefore ws start i u) where
-  -- answer 8 or 9 applies to a record of the unit
-  pub unit-ill : {ds gs os : List ℕ} → u .first ≡ i → UnitFilled ws start i ds gs os i
-  unit-ill e = record { low = omega arith; ill = λ d. b .ill e; scanned = λ n. absurd (n refl) }
+-- answer 8 or 9 applies to a record of the unit before record i
+pub unit-ill : {ws : List ℕ} {start i : ℕ} {ds gs os : List ℕ} {s : SideValue} → (Clean ws → ⊥) →
+    UnitFilled ws start i ds gs os (record { first = i; side = s })
+unit-ill h =
+    record { low = omega arith; ill = λ e. h; scanned = λ n. absurd (n refl); side-is = λ n. absurd (n refl) }
 
-  -- to none of them
-  module _ (n : u .first ≡ i → ⊥) where
-    pub to-join : ToJoin ws (u .first) i
-    to-join = let o = b .unit n in record { order = o .order; within = o .within; fine = o .fine }
+-- what the next unit's side must keep for a gap to be looked up
+pub next-ok : {ws : List ℕ} {start i : ℕ} {t : Side} → Scanning ws start i → SideFrom ws i t → i < size ws → SideOk t
+next-ok {ws} {i = i} s q h = rw (q h) (side-limits ws i (s .sound) i (omega arith) h)
 
-    pub to-fill : {ds gs os : List ℕ} {j : Joint} → RowsScanned ws start i ds gs os → AfterUnit ws (u .first) i j →
-        UnitToFill ws (u .first) i (u .base) (j .gap) (j .tied) ds gs os
-    to-fill s a =
-        let o = b .unit n in
-        let h = unit-step ws (u .first) (omega (arith, o .order, o .within)) .first in
-        record {
-          unit = o;
-          rows = s .rows;
-          gap-is = a .gap _ h;
-          tied-is = a .tied _ h;
-          advance-room = s .advance-room;
-          gap-room = s .gap-room;
-          offset-room = s .offset-room;
-        }
+-- the unit that ends before record i, to none of whose records 8 or 9 applies, with its side; r is its last record
+pub record UnitMet (ws : List ℕ) (start i : ℕ) (r : Rec) (u : UnitSums) (s : SideValue) : Type 0 where
+  pub before : UnitBefore ws start i u
+  pub found : u .first ≡ i → ⊥
+  pub side-is : sideOf s ≡ sideBy (recAt ws (u .first))
+  pub lone-first : r .group ≡ 0 → u .first + 1 ≡ i
+  pub lone-base : r .group ≡ 0 → u .base ≡ r .advance
 
-    pub unit-filled : {ds gs os : List ℕ} → RowsFilled ws (u .first) ds gs os →
-        UnitFilled ws start i ds gs os (u .first)
-    unit-filled r =
-        record {
-          low = b .low;
-          ill = b .ill;
-          scanned =
-              λ d.
-              record {
-                scanning = b .scanning n;
-                rows = r .rows;
-                advance-room = r .advance-room;
-                gap-room = r .gap-room;
-                offset-room = r .offset-room;
-              };
-        }
+lone-side : (r : Rec) → r .group ≡ 0 → record { class = r .class; size = r .size; code = r .code } ≡ sideBy r
+unfolding sideBy
+lone-side r g = rw g
+
+pub met-alone : {ws : List ℕ} {start i : ℕ} → Scanning ws start i → 0 < i → {r : Rec} → r ≡ recAt ws (i - 1) → Fine r →
+    r .group ≡ 0 →
+    UnitMet ws start i r (record { first = i - 1; base = r .advance })
+    (record { class = r .class; size = r .size; code = r .code })
+met-alone {i = i} s h {r} q f g =
+    record {
+      before = unit-alone s (i - 1) (omega arith) q f g;
+      found = λ e. omega arith;
+      side-is = lone-side r g ∙ ap (λ p. sideBy p) q;
+      lone-first = λ d. omega arith;
+      lone-base = λ d. refl;
+    }
+
+pub met-group : {ws : List ℕ} {start i : ℕ} {r : Rec} {u : UnitSums} {s : SideValue} → (r .group ≡ 0 → ⊥) →
+    UnitBefore ws start i u → (u .first ≡ i → ⊥) → sideOf s ≡ sideBy (recAt ws (u .first)) → UnitMet ws start i r u s
+met-group g b n q =
+    record { before = b; found = n; side-is = q; lone-first = λ d. absurd (g d); lone-base = λ d. absurd (g d) }
+
+module _ {ws : List ℕ} {start i : ℕ} {r : Rec} {u : UnitSums} {s : SideValue} (m : UnitMet ws start i r u s) where
+  inside : u .first < size ws
+  inside = let o = m .before .unit (m .found) in omega (arith, o .order, o .within)
+
+  pub side-ok : SideOk (sideOf s)
+  side-ok =
+      rw (m .side-is)
+      (side-limits ws (u .first) (m .before .unit (m .found) .fine) (u .first) (omega arith) inside)
+
+  pub to-fill : {ds gs os : List ℕ} {t : Side} {more : Bool} {j : Joint} → RowsScanned ws start i ds gs os →
+      SideFrom ws i t → more ≡ ltb i (size ws) → AfterUnit (sideOf s) more t j →
+      UnitToFill ws (u .first) i (u .base) (j .gap) (j .tied) ds gs os
+  to-fill p q e a =
+      record {
+        unit = m .before .unit (m .found);
+        rows = p .rows;
+        gap-is = gap-after ws (u .first) i a e inside (m .side-is) q;
+        tied-is = tie-after ws (u .first) i a e inside (m .side-is) q;
+        advance-room = p .advance-room;
+        gap-room = p .gap-room;
+        offset-room = p .offset-room;
+      }
+
+  pub unit-filled : {ds gs os : List ℕ} → RowsFilled ws (u .first) ds gs os →
+      UnitFilled ws start i ds gs os (record { first = u .first; side = s })
+  unit-filled f =
+      record {
+        low = m .before .low;
+        ill = m .before .ill;
+        scanned =
+            λ d.
+            record {
+              scanning = m .before .scanning (m .found);
+              rows = f .rows;
+              advance-room = f .advance-room;
+              gap-room = f .gap-room;
+              offset-room = f .offset-room;
+            };
+        side-is = λ d. m .side-is;
+      }
+
+-- a record of no group has no ruby
+pub no-ruby : (r : Rec) → Fine r → r .group ≡ 0 → r .ruby ≡ 0
+unfolding groupOk
+no-ruby r f z = eqb-true (r .ruby) 0 (rw z at (asked r f .group))
+
+-- so its row holds its own advance and the offset 0
+module _ {ws : List ℕ} {first end base gap tied : ℕ} {ds gs os : List ℕ}
+    (t : UnitToFill ws first end base gap tied ds gs os) (n : first + 1 ≡ end) {r : Rec} (q : r ≡ recAt ws (end - 1))
+    (z : r .ruby ≡ 0) where
+  no-offset : 0 ≡ baseOffset base (r .ruby) (r .size) (end - first) 0 0
+  unfolding baseOffset shift
+  no-offset = let e : end - first ≡ 1 = omega arith in rw (z, e) (omega arith)
+
+  own-advance : base ≡ groupAdvance base (r .ruby) (r .size)
+  unfolding groupAdvance
+  own-advance = rw z (omega arith)
+
+  pub lone-filled : {ds' gs' os' : List ℕ} {w : ℕ} → base ≡ w → ds' ≡ set ds (end - 1) (2 * w + tied) →
+      gs' ≡ set gs (end - 1) gap → os' ≡ set os (end - 1) 0 → RowsFilled ws first ds' gs' os'
+  lone-filled e a b c =
+      let d : end - 1 ≡ first = omega arith in
+      fill-done t (rw d at q) (fill-start t) no-offset (omega arith) (sym e ∙ own-advance) a b c
 
 -- no row is filled yet
 pub rows-none : {ws ds gs os : List ℕ} → size ws ≤ 256 → RowsFrom ws 0 (size ws) ds gs os
@@ -81,14 +155,14 @@ rows-none {ws} h =
     }
 
 -- one unit less is left
-pub unit-lower : {ws : List ℕ} {start i first : ℕ} {ds gs os : List ℕ} → UnitFilled ws start i ds gs os first →
-    (first ≡ i → ⊥) → first < i
-unit-lower {i = i} {first = first} u n =
-    elim (ordered first i) [ inl h ↦ h | inr h ↦ absurd (n (omega (arith, u .low))) ]
+pub unit-lower : {ws : List ℕ} {start i : ℕ} {ds gs os : List ℕ} {d : UnitDone} → UnitFilled ws start i ds gs os d →
+    (d .first ≡ i → ⊥) → d .first < i
+unit-lower {i = i} {d = d} u n =
+    elim (ordered (d .first) i) [ inl h ↦ h | inr h ↦ absurd (n (omega (arith, u .low))) ]
 
 -- how the scan ends
-pub scan-ill : {ws : List ℕ} {start i first : ℕ} {ds gs os : List ℕ} → UnitFilled ws start i ds gs os first →
-    first ≡ i → Scanned ws ds gs os false
+pub scan-ill : {ws : List ℕ} {start i : ℕ} {ds gs os : List ℕ} {d : UnitDone} → UnitFilled ws start i ds gs os d →
+    d .first ≡ i → Scanned ws ds gs os false
 scan-ill u e =
     record {
       clean = λ d. absurd (true-false (sym d));

@@ -169,9 +169,12 @@ pub unit-none : {ws : List ℕ} {start i : ℕ} → (Clean ws → ⊥) → UnitB
 unit-none h =
     record { low = omega arith; ill = λ e. h; scanning = λ n. absurd (n refl); unit = λ n. absurd (n refl) }
 
+pub unsound : {ws : List ℕ} (j : ℕ) → j < size ws → {r : Rec} → r ≡ recAt ws j → recOk r ≡ false → Clean ws → ⊥
+unsound j h q f c = true-false (sym (clean-fine c j h) ∙ rw q at f)
+
 pub unit-unsound : {ws : List ℕ} {start i : ℕ} (j : ℕ) → j < size ws → {r : Rec} → r ≡ recAt ws j → recOk r ≡ false →
     UnitBefore ws start i (record { first = i; base = 0 })
-unit-unsound j h q f = unit-none (λ c. true-false (sym (clean-fine c j h) ∙ rw q at f))
+unit-unsound j h q f = unit-none (unsound j h q f)
 
 module _ {ws : List ℕ} {start i first base : ℕ} (s : Scanning ws start i) (w : Walked ws i first base) where
   unit-found : (0 < first → sameGroup (recAt ws (first - 1)) (recAt ws first) ≡ false) →
@@ -213,6 +216,16 @@ module _ {ws : List ℕ} {start i first base : ℕ} (s : Scanning ws start i) (w
   -- no record stands before the unit
   pub unit-first : first ≡ 0 → UnitBefore ws start i (record { first = first; base = base })
   unit-first e = unit-found (λ h. let z : ⊥ = omega arith in absurd z)
+
+-- a record of no group is a unit
+alone-apart : (p r : Rec) → r .group ≡ 0 → sameGroup p r ≡ false
+alone-apart p r g = rw g
+
+pub unit-alone : {ws : List ℕ} {start i : ℕ} → Scanning ws start i → (j : ℕ) → i ≡ j + 1 → {r : Rec} → r ≡ recAt ws j →
+    Fine r → r .group ≡ 0 → UnitBefore ws start i (record { first = j; base = r .advance })
+unit-alone {ws} s j e {r} q f g =
+    let apart : sameGroup (recAt ws (j - 1)) (recAt ws j) ≡ false = rw q at (alone-apart (recAt ws (j - 1)) r g) in
+    rw q (unit-found s (walked-last s j e (rw q at f)) (λ h. apart))
 
 -- the unit so far, its first record r and the record p before it
 pub record Meeting (ws : List ℕ) (start i first base : ℕ) (p r : Rec) : Type 0 where

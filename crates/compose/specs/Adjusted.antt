@@ -11,7 +11,7 @@
 use mathlib.Core.Path.{_≡_}
 use mathlib.Core.Option.{none}
 use Prim.Native.Nat.{ℕ, _+_, _*_, _-_, _/_, _≤_, _<_}
-use mathlib.Core.Bool.{Bool}
+use mathlib.Core.Bool.{Bool, true, false}
 use mathlib.Core.List.{List, [], _∷_, _++_}
 use lib.ListN.{length}
 use lib.Seq.{paste}
@@ -44,20 +44,30 @@ pub record PartOf (s c : Gap) : Type 0 where
 unfoldable pub rateOf : ℕ → ℕ → ℕ
 rateOf e c = e * 8796093022208 / c + 1
 
--- amounts that the gaps c can take, or at most a measure, and what the gaps come to
+-- amounts that the gaps c can take, or at most a measure, and what the gaps come to. No line shrinks and stretches
 pub record RateBounds (e : Amounts) (c : Gap) : Type 0 where
   pub shrink₁ : e .shrink₁ ≤ c .shrink₁
   pub shrink₂ : e .shrink₂ ≤ c .shrink₂
   pub stretch₁ : e .stretch₁ ≤ 1000000
   pub stretch₂ : e .stretch₂ ≤ 1000000
+  pub one-way : 0 < e .shrink₁ + e .shrink₂ → e .stretch₁ + e .stretch₂ ≡ 0
   pub total : AtMost 255 c
   pub packs : Packs c
 
+-- the rates of a line that shrinks, and of one that does not
+pub record ShrinkRates (r : Rates) (e : Amounts) (c : Gap) : Type 0 where
+  pub first : r .first ≡ rateOf (e .shrink₁) (c .shrink₁)
+  pub second : r .second ≡ rateOf (e .shrink₂) (c .shrink₂)
+  pub unstretched : e .stretch₁ + e .stretch₂ ≡ 0
+
+pub record StretchRates (r : Rates) (e : Amounts) (c : Gap) : Type 0 where
+  pub first : r .first ≡ rateOf (e .stretch₁) (c .stretch₁)
+  pub second : r .second ≡ rateOf (e .stretch₂) (c .stretch₂)
+  pub unshrunk : e .shrink₁ + e .shrink₂ ≡ 0
+
 pub record RatesOf (r : Rates) (e : Amounts) (c : Gap) : Type 0 where
-  pub shrink₁ : r .shrink1 ≡ rateOf (e .shrink₁) (c .shrink₁)
-  pub shrink₂ : r .shrink2 ≡ rateOf (e .shrink₂) (c .shrink₂)
-  pub stretch₁ : r .stretch1 ≡ rateOf (e .stretch₁) (c .stretch₁)
-  pub stretch₂ : r .stretch2 ≡ rateOf (e .stretch₂) (c .stretch₂)
+  pub shrinking : r .shrinks ≡ true → ShrinkRates r e c
+  pub stretching : r .shrinks ≡ false → StretchRates r e c
 
 -- the floors of amounts e over totals c, up to gaps that add up to s
 abbrev pub floors : Amounts → Gap → Gap → Amounts

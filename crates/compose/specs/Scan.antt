@@ -4,6 +4,7 @@
 --                   those before `start` are known to keep their own
 --   unit before     the unit that ends before record i, or i where 8 or 9 applies to one of its records
 --   after unit      what stands after a unit: the gap and the tie of its last row
+--   side from       what a unit's left neighbour sees of it
 --   scanned         answers 8 and 9 apply to no record and all rows are filled; or one of them applies
 --
 -- Assumes nothing.
@@ -14,12 +15,16 @@ use mathlib.Core.List.{List, _∷_}
 use mathlib.Core.Option.{none}
 use lib.ListN.{length, take}
 use Rattle.rules.specs.Records.{Rec, recAt, records, recOk, badRecord}
-use Rattle.rules.specs.Groups.{TextUnit, sameGroup, groupFault, count, baseTotal}
+use Rattle.rules.specs.Groups.{sameGroup, groupFault, count, baseTotal}
+use Rattle.rules.specs.Sides.{Side, sideBy, forbidden}
+use Rattle.rules.specs.Gaps.{gapOf}
+use Rattle.rules.specs.Values.{sideOf}
 use Rattle.rules.specs.Packed.{unpacked}
 use Rattle.rules.specs.Meanings.{All}
 use Rattle.compose.specs.Paragraph.{size, paragraph, from, unitAt}
 use Rattle.compose.specs.Rows.{outer, bit, Rowed}
 use Rattle.compose.specs.declared.rows.UnitSums.{UnitSums}
+use Rattle.compose.specs.declared.rows.UnitDone.{UnitDone}
 use Rattle.compose.specs.declared.rows.Joint.{Joint}
 
 abbrev pub Fine : Rec → Type 0
@@ -55,16 +60,17 @@ pub record UnitBefore (ws : List ℕ) (start i : ℕ) (r : UnitSums) : Type 0 wh
   pub scanning : (r .first ≡ i → ⊥) → Scanning ws start (r .first)
   pub unit : (r .first ≡ i → ⊥) → UnitOf ws (r .first) i (r .base)
 
--- two units that follow each other, of sound records; the second one may be missing
-pub record ToJoin (ws : List ℕ) (first next : ℕ) : Type 0 where
-  pub order : first < next
-  pub within : next ≤ size ws
-  pub fine : All Fine (records ws first (size ws - first))
+-- the gap after a unit of side l, where one of side r follows, and 1 where the break between them is forbidden, else
+-- 0; where none follows, nothing
+pub record AfterUnit (l : Side) (more : Bool) (r : Side) (j : Joint) : Type 0 where
+  pub gap : more ≡ true → unpacked (j .gap) ≡ gapOf l r
+  pub tied : more ≡ true → j .tied ≡ bit (forbidden l r)
+  pub no-gap : more ≡ false → j .gap ≡ 0
+  pub no-tie : more ≡ false → j .tied ≡ 0
 
--- gap and tie as the last row of the first unit is to have them
-pub record AfterUnit (ws : List ℕ) (first next : ℕ) (r : Joint) : Type 0 where
-  pub gap : (u : TextUnit) → u .first ≡ recAt ws first → unpacked (r .gap) ≡ outer u (from ws next) 0 .gap
-  pub tied : (u : TextUnit) → u .first ≡ recAt ws first → r .tied ≡ bit (outer u (from ws next) 0 .tied)
+-- the side of the unit that starts with record i, if there is one
+abbrev pub SideFrom : List ℕ → ℕ → Side → Type 0
+SideFrom ws i s = i < size ws → s ≡ sideBy (recAt ws i)
 
 -- the rows from record i on are filled
 pub record RowsFrom (ws : List ℕ) (start i : ℕ) (ds gs os : List ℕ) : Type 0 where
@@ -95,10 +101,11 @@ pub record RowsFilled (ws : List ℕ) (first : ℕ) (ds gs os : List ℕ) : Type
   pub gap-room : length gs ≡ 256
   pub offset-room : length os ≡ 256
 
-pub record UnitFilled (ws : List ℕ) (start i : ℕ) (ds gs os : List ℕ) (first : ℕ) : Type 0 where
-  pub low : first ≤ i
-  pub ill : first ≡ i → Clean ws → ⊥
-  pub scanned : (first ≡ i → ⊥) → RowsScanned ws start first ds gs os
+pub record UnitFilled (ws : List ℕ) (start i : ℕ) (ds gs os : List ℕ) (r : UnitDone) : Type 0 where
+  pub low : r .first ≤ i
+  pub ill : r .first ≡ i → Clean ws → ⊥
+  pub scanned : (r .first ≡ i → ⊥) → RowsScanned ws start (r .first) ds gs os
+  pub side-is : (r .first ≡ i → ⊥) → sideOf (r .side) ≡ sideBy (recAt ws (r .first))
 
 pub record Scanned (ws ds gs os : List ℕ) (b : Bool) : Type 0 where
   pub clean : b ≡ true → Clean ws

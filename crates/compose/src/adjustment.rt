@@ -5,8 +5,7 @@ ghost use Prim.Native.Nat.{_*_, _-_, _/_, _≤_, min};
 ghost use Rattle.rules.specs.Adjustment.{amounts, kindOf};
 ghost use Rattle.rules.specs.Values.{gapFrom};
 ghost use Rattle.rules.specs.Packed.{unpacked};
-ghost use Rattle.compose.specs.Adjusted.{amountsFrom, rateOf, RateBounds, RatesOf, PartOf, floors};
-ghost use Rattle.compose.specs.Adjusted.{placeBy, Placeable};
+ghost use Rattle.compose.specs.Adjusted.{amountsFrom, rateOf, RateBounds, RatesOf, placeBy, Placeable};
 use rules::Gap;
 use rules::over;
 use rules::unpack;
@@ -19,12 +18,12 @@ pub(crate) struct Stages {
     pub stretch2: u32,
 }
 
-// What each unit of capacity takes of a line's amounts, in parts of 2^43.
+// What each unit of capacity takes of a line's amounts, in parts of 2^43. A line shrinks or stretches, never both: the
+// first and second stage are those of the one or of the other.
 pub(crate) struct Rates {
-    pub shrink1: u64,
-    pub shrink2: u64,
-    pub stretch1: u64,
-    pub stretch2: u64,
+    pub shrinks: bool,
+    pub first: u64,
+    pub second: u64,
 }
 
 // One part, 2^43.
@@ -96,11 +95,18 @@ pub(crate) fn line_rates(e: Stages, c: Gap) -> Rates
     requires { ⌜ RateBounds (amountsFrom e) (gapFrom c) ⌝ }
     ensures { λ r. ⌜ RatesOf r (amountsFrom e) (gapFrom c) ⌝ }
 {
-    Rates {
-        shrink1: rate(e.shrink1, c.shrink1),
-        shrink2: rate(e.shrink2, c.shrink2),
-        stretch1: rate(e.stretch1, c.stretch1),
-        stretch2: rate(e.stretch2, c.stretch2),
+    if 0 < e.shrink1 + e.shrink2 {
+        Rates {
+            shrinks: true,
+            first: rate(e.shrink1, c.shrink1),
+            second: rate(e.shrink2, c.shrink2),
+        }
+    } else {
+        Rates {
+            shrinks: false,
+            first: rate(e.stretch1, c.stretch1),
+            second: rate(e.stretch2, c.stretch2),
+        }
     }
 }
 
@@ -112,26 +118,19 @@ fn shared(rate: u64, e: u32, s: u32, c: u32) -> u32
     (rate * (s as u64) / PART) as u32
 }
 
-// What of the amounts `e` the gaps that add up to `s` have taken, of those that add up to `c`.
-fn floors_at(rates: Rates, e: Stages, c: Gap, s: Gap) -> Stages
-    requires { ⌜ RateBounds (amountsFrom e) (gapFrom c) × RatesOf rates (amountsFrom e) (gapFrom c) ⌝ }
-    requires { ⌜ PartOf (gapFrom s) (gapFrom c) ⌝ }
-    ensures { λ r. ⌜ amountsFrom r ≡ floors (amountsFrom e) (gapFrom c) (gapFrom s) ⌝ }
-{
-    Stages {
-        shrink1: shared(rates.shrink1, e.shrink1, s.shrink1, c.shrink1),
-        shrink2: shared(rates.shrink2, e.shrink2, s.shrink2, c.shrink2),
-        stretch1: shared(rates.stretch1, e.stretch1, s.stretch1, c.stretch1),
-        stretch2: shared(rates.stretch2, e.stretch2, s.stretch2, c.stretch2),
-    }
-}
-
 // Where the unit after units that end at `solid`, where they stand solid, and gaps that add up to `sums` starts.
 pub(crate) fn place_at(rates: Rates, e: Stages, c: Gap, solid: u32, sums: u64) -> u32
     requires { ⌜ Placeable rates (amountsFrom e) (gapFrom c) solid (unpacked sums) ⌝ }
     ensures { λ r. ⌜ r ≡ placeBy (amountsFrom e) (gapFrom c) solid (unpacked sums) ⌝ }
 {
     let s = unpack(sums);
-    let f = floors_at(rates, e, c, s);
-    solid + (s.space - f.shrink1 - f.shrink2) + f.stretch1 + f.stretch2
+    if rates.shrinks {
+        let first = shared(rates.first, e.shrink1, s.shrink1, c.shrink1);
+        let second = shared(rates.second, e.shrink2, s.shrink2, c.shrink2);
+        solid + (s.space - first - second)
+    } else {
+        let first = shared(rates.first, e.stretch1, s.stretch1, c.stretch1);
+        let second = shared(rates.second, e.stretch2, s.stretch2, c.stretch2);
+        solid + s.space + first + second
+    }
 }

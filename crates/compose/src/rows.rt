@@ -1,13 +1,14 @@
 // The rows of a paragraph, one for each record, filled from its end in one scan that asks answers 8 and 9 on its way.
 ghost use mathlib.Core.Path.{_≡_};
-ghost use Prim.Native.Nat.{_+_, _≤_, _<_};
+ghost use mathlib.Core.Bool.{true};
+ghost use Prim.Native.Nat.{_<_};
 ghost use lib.ListN.{length, set};
 ghost use Rattle.rules.specs.Records.{recAt};
 ghost use Rattle.rules.specs.Sides.{sideBy};
-ghost use Rattle.rules.specs.Values.{sideOf, classTable, Laid};
+ghost use Rattle.rules.specs.Values.{sideOf, classTable, SideOk, Laid};
 ghost use Rattle.compose.specs.Paragraph.{size};
-ghost use Rattle.compose.specs.Scan.{Scanning, Scanned, UnitFilled, UnitBefore, AfterUnit, ToJoin, RowsFrom, RowsScanned};
-ghost use Rattle.compose.specs.Scan.{UnitToFill, RowsFilled};
+ghost use Rattle.compose.specs.Scan.{Scanning, Scanned, UnitFilled, UnitBefore, AfterUnit, SideFrom, RowsFrom};
+ghost use Rattle.compose.specs.Scan.{RowsScanned, UnitToFill, RowsFilled};
 use crate::checks::record_at;
 use crate::checks::same_group;
 use rules::Entry;
@@ -25,6 +26,12 @@ use rules::spacing_table;
 pub(crate) struct UnitSums {
     pub first: usize,
     pub base: u32,
+}
+
+// A unit whose rows are filled: its first record, and its side.
+pub(crate) struct UnitDone {
+    pub first: usize,
+    pub side: Side,
 }
 
 // What stands after a unit: the gap in one word, and 1 where the break is forbidden, else 0.
@@ -87,24 +94,23 @@ fn side_at(ws: &[u32], i: usize) -> Side
     }
 }
 
-// What stands between the unit that starts with record `first` and the next one, which starts with record `next`, if
-// there is one. The last three are the tables that a gap is looked up in.
+// What stands after the unit of side `l`: the gap to the next unit, of side `r`, and whether the break is forbidden;
+// or nothing, where no unit follows. The last three are the tables that a gap is looked up in.
 fn after_unit(
-    ws: &[u32],
-    first: usize,
-    next: usize,
+    l: Side,
+    more: bool,
+    r: Side,
     classes: &[u8; 28],
     spacing: &[[Entry; 18]; 18],
     words: &[[u64; 2]; 10],
 ) -> Joint
-    requires { ⌜ ToJoin (now ws) first next × Laid (now classes) (now spacing) (now words) ⌝ }
-    ensures { λ r. ⌜ AfterUnit (now (ws .entry)) first next r ⌝ }
+    requires { ⌜ SideOk (sideOf l) × (more ≡ true → SideOk (sideOf r)) ⌝ }
+    requires { ⌜ Laid (now classes) (now spacing) (now words) ⌝ }
+    ensures { λ j. ⌜ AfterUnit (sideOf l) more (sideOf r) j ⌝ }
 {
-    if ws.len() / 6 <= next {
+    if !more {
         return Joint { gap: 0, tied: 0 };
     }
-    let l = side_at(ws, first);
-    let r = side_at(ws, next);
     let tied = break_forbidden(l, r);
     Joint {
         gap: gap_between(l, r, tied, classes, spacing, words),
@@ -179,11 +185,13 @@ fn put_unit(
     );
 }
 
-// Fills the rows of the unit that ends before record `i` and gives its first record; or gives `i`, where answer 8 or 9
-// applies to one of its records.
+// Fills the rows of the unit that ends before record `i`, and gives its first record and its side; or gives `i`, where
+// answer 8 or 9 applies to one of its records. `next` is the side of the unit that starts with record `i`, if there is
+// one.
 fn fill_unit(
     ws: &[u32],
     i: usize,
+    next: Side,
     start: usize,
     classes: &[u8; 28],
     spacing: &[[Entry; 18]; 18],
@@ -191,29 +199,70 @@ fn fill_unit(
     advances: &mut [u32],
     gaps: &mut [u64],
     offsets: &mut [u32],
-) -> usize
+) -> UnitDone
     requires { ⌜ RowsScanned (now ws) start i (now advances) (now gaps) (now offsets) × (0 < i) ⌝ }
-    requires { ⌜ Laid (now classes) (now spacing) (now words) ⌝ }
+    requires { ⌜ SideFrom (now ws) i (sideOf next) × Laid (now classes) (now spacing) (now words) ⌝ }
     ensures { λ r. ⌜ UnitFilled (now (ws .entry)) start i (now (advances .exit)) (now (gaps .exit))
         (now (offsets .exit)) r ⌝ }
 {
-    let u = unit_before(ws, i, start, classes);
-    if u.first == i {
-        return i;
+    let last = i - 1;
+    let r = record_at(ws, last);
+    if start < i {
+        if !record_ok(r, classes) {
+            return UnitDone {
+                first: i,
+                side: next,
+            };
+        }
     }
-    let joint = after_unit(ws, u.first, i, classes, spacing, words);
-    put_unit(
-        ws,
-        u.first,
-        i,
-        u.base,
-        joint.gap,
-        joint.tied,
-        advances,
-        gaps,
-        offsets,
-    );
-    u.first
+    let mut unit = UnitSums {
+        first: last,
+        base: r.advance,
+    };
+    let mut side = Side {
+        class: r.class,
+        size: r.size,
+        code: r.code,
+    };
+    if r.group != 0 {
+        unit = unit_before(ws, i, start, classes);
+        if unit.first == i {
+            return UnitDone {
+                first: i,
+                side: next,
+            };
+        }
+        side = side_at(ws, unit.first);
+    }
+    let joint = after_unit(side, i < ws.len() / 6, next, classes, spacing, words);
+    if r.group == 0 {
+        // most records: no group, so no ruby and no offset
+        put_row(
+            advances,
+            gaps,
+            offsets,
+            last,
+            2 * r.advance + joint.tied,
+            joint.gap,
+            0,
+        );
+    } else {
+        put_unit(
+            ws,
+            unit.first,
+            i,
+            unit.base,
+            joint.gap,
+            joint.tied,
+            advances,
+            gaps,
+            offsets,
+        );
+    }
+    UnitDone {
+        first: unit.first,
+        side: side,
+    }
 }
 
 // Fills the rows before record `end`, from there on filled already, and says whether answers 8 and 9 apply to no
@@ -238,10 +287,20 @@ pub(crate) fn fill_rows(
     let row_gaps = &mut gaps[..];
     let row_offsets = &mut offsets[..];
     let mut i = end;
+    let mut next = if end < ws.len() / 6 {
+        side_at(ws, end)
+    } else {
+        Side {
+            class: 0,
+            size: 0,
+            code: 0,
+        }
+    };
     while 0 < i {
-        let first = fill_unit(
+        let unit = fill_unit(
             ws,
             i,
+            next,
             start,
             &classes,
             &spacing,
@@ -250,10 +309,11 @@ pub(crate) fn fill_rows(
             row_gaps,
             row_offsets,
         );
-        if first == i {
+        if unit.first == i {
             return false;
         }
-        i = first;
+        i = unit.first;
+        next = unit.side;
     }
     true
 }

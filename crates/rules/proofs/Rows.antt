@@ -1,17 +1,19 @@
 -- Class numbers and their rows: the table below 28, the numbers past it, and that a class is a number with a row.
 -- Assumes nothing.
 use mathlib.Core.Path.{_≡_, refl, sym, ap, _∙_}
-use Prim.Native.Nat.{ℕ, zero, suc, _/_, _%_, _≤_, _<_}
+use Prim.Native.Nat.{ℕ, zero, suc, _*_, _/_, _%_, _≤_, _<_}
 use native.Mathlib.Omega.{arith}
-use mathlib.Core.Bool.{Bool, true, false, cond, _||_, and-eq-true-iff}
+use mathlib.Core.Bool.{Bool, true, false, cond, _&&_, _||_, and-eq-true-iff}
+use mathlib.Core.Logic.{inl, inr}
 use mathlib.Core.List.{List, [], _∷_}
-use lib.Dec.{ltb, eqb, leb·suc-suc}
+use lib.Dec.{leb, ltb, eqb, leb·suc-suc}
 use lib.ListN.{length, getD}
-use borrow.Author.Tests.{ne-eqb, ltb-true, lt-ltb}
+use borrow.Author.Tests.{eqb-true, eqb-false, ne-eqb, ltb-true, lt-ltb, le-leb, lt-leb}
 use Rattle.rules.specs.Basics.{isIn}
 use Rattle.rules.specs.Records.{classes, classOk, placeIn, rowOf, advanceKind}
-use Rattle.rules.specs.Records.{AdvanceKind, half-size, to-size, to-twice, full-size}
+use Rattle.rules.specs.Records.{AdvanceKind, half-size, to-size, to-twice, full-size, advanceFits}
 use Rattle.rules.specs.Values.{kindNumber, kindNumbered, entryOf, classTable}
+use Rattle.rules.proofs.Facts.{ordered}
 use Rattle.rules.proofs.Table.{tabled-at, allOf, all-at}
 
 -- a kind of advance and its number
@@ -27,12 +29,6 @@ number-small to-size = omega arith
 number-small to-twice = omega arith
 number-small full-size = omega arith
 
-pub numbered-past : (n : ℕ) → (n ≡ 0 → ⊥) → (n ≡ 1 → ⊥) → (n ≡ 2 → ⊥) → kindNumbered n ≡ full-size
-numbered-past zero a b c = absurd (a refl)
-numbered-past (suc zero) a b c = absurd (b refl)
-numbered-past (suc (suc zero)) a b c = absurd (c refl)
-numbered-past (suc (suc (suc n))) a b c = refl
-
 pub entry-at : {t : List ℕ} → t ≡ classTable → (c : ℕ) → c < 28 → getD t c 0 ≡ entryOf c
 unfolding classTable
 entry-at e c h = rw e (tabled-at entryOf 0 28 c h)
@@ -45,6 +41,36 @@ pub entry-kind : (c : ℕ) → kindNumbered (entryOf c % 4) ≡ advanceKind c
 entry-kind c =
     let e : entryOf c % 4 ≡ kindNumber (advanceKind c) = omega (arith, number-small (advanceKind c)) in
     ap (λ n. kindNumbered n) e ∙ number-kept (advanceKind c)
+
+-- the most and the least that an advance of a kind may be, by the kind's number
+abbrev pub mostOf : ℕ → ℕ → ℕ
+mostOf k s = cond (eqb k 0) (s / 2) (cond (eqb k 2) (2 * s) s)
+
+abbrev pub leastOf : ℕ → ℕ → ℕ
+leastOf k most = cond (eqb k 1 || eqb k 2) 1 most
+
+leb-both : (a b : ℕ) → (leb b a && leb a b) ≡ eqb a b
+leb-both a b = cases (eqb a b) refl
+  where
+    cases : (t : Bool) → eqb a b ≡ t → (leb b a && leb a b) ≡ t
+    cases true e = let q = eqb-true a b e in rw (le-leb b a (omega arith), le-leb a b (omega arith))
+    cases false e =
+        elim (ordered a b) [
+          | inl h ↦ rw (lt-leb b a h)
+          | inr h ↦
+              let n = eqb-false a b e in
+              let l : b < a = omega (arith, n) in
+              rw (le-leb b a h, lt-leb a b l)
+        ]
+
+pub fits-between : (k s a : ℕ) →
+    (leb (leastOf k (mostOf k s)) a && leb a (mostOf k s)) ≡ advanceFits (kindNumbered k) s a
+fits-between zero s a = leb-both a (s / 2)
+fits-between (suc zero) s a = refl
+fits-between (suc (suc zero)) s a = refl
+fits-between (suc (suc (suc n))) s a =
+    let k = suc (suc (suc n)) in
+    rw (ne-eqb k 0 (λ q. omega arith), ne-eqb k 1 (λ q. omega arith), ne-eqb k 2 (λ q. omega arith)) (leb-both a s)
 
 -- each number of a list is below b
 abbrev below : ℕ → List ℕ → Bool

@@ -1,8 +1,8 @@
--- The program's values as the rules have them: a struct of src/ field by field, an enum of src/ case by case. Of a
--- name that the two share, the program's ends in `Value`.
+-- The program's values as the rules have them: a struct of src/ field by field. Of a name that the two share, the
+-- program's ends in `Value`.
 --
 --   .. of        what a function is told: record, side
---   .. from      what a function answers: kind of advance, gap
+--   .. from      what a function answers: gap
 --   class table  for each number below 28 its row and its kind of advance, as one number: an entry
 --   classed      the row is that of the class number
 --   bounds       what a function asks of the numbers that it is told, so that its sums and products fit 32 bits
@@ -21,19 +21,11 @@ use Rattle.rules.specs.Spacing.{spacingTable}
 use Rattle.rules.specs.Packed.{entryWords}
 use Rattle.rules.specs.declared.records.Record.{Record}
 use Rattle.rules.specs.declared.records.ClassRow.{ClassRow}
-use Rattle.rules.specs.declared.records.AdvanceKind.{AdvanceKind as KindValue}
-use Rattle.rules.specs.declared.records.AdvanceKind.the-variants.{HalfSize, ToSize, ToTwice, FullSize}
 use Rattle.rules.specs.declared.groups.Side.{Side as SideValue}
 use Rattle.rules.specs.declared.gaps.Gap.{Gap as GapValue}
 
 abbrev pub recordOf : Record → Rec
 recordOf rec = recOf (rec .code) (rec .class) (rec .size) (rec .advance) (rec .group) (rec .ruby)
-
-abbrev pub kindFrom : KindValue → AdvanceKind
-kindFrom HalfSize = half-size
-kindFrom ToSize = to-size
-kindFrom ToTwice = to-twice
-kindFrom FullSize = full-size
 
 -- the kinds of advance by number, as the class table has them
 abbrev pub kindNumber : AdvanceKind → ℕ
@@ -58,7 +50,7 @@ classTable = tabled entryOf 0 28
 
 pub record Classed (c : ℕ) (answer : ClassRow) : Type 0 where
   pub row : answer .row ≡ rowOf c
-  pub kind : kindFrom (answer .kind) ≡ advanceKind c
+  pub kind : kindNumbered (answer .kind) ≡ advanceKind c
 
 abbrev pub sideOf : SideValue → Side
 sideOf side = record { class = side .class; size = side .size; code = side .code }

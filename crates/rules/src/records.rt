@@ -1,7 +1,7 @@
 // "Records and groups": a record and its own rules.
 ghost use mathlib.Core.Path.{_≡_};
 ghost use Rattle.rules.specs.Records.{codeOk, sizeOk, advanceFits, groupOk, recOk};
-ghost use Rattle.rules.specs.Values.{recordOf, kindFrom, kindNumbered, classTable, Classed};
+ghost use Rattle.rules.specs.Values.{recordOf, kindNumbered, classTable, Classed};
 use crate::basics::between;
 use crate::basics::one_of3;
 
@@ -14,21 +14,13 @@ pub struct Record {
     pub ruby: u32,
 }
 
-// What an advance is to its size: half of it, up to it, up to twice it, or the size itself.
-pub(crate) enum AdvanceKind {
-    HalfSize,
-    ToSize,
-    ToTwice,
-    FullSize,
-}
-
-// A class's place among the eighteen, from 0, and its kind of advance.
+// A class's place among the eighteen, from 0, and the number of its kind of advance.
 pub(crate) struct ClassRow {
     pub row: u32,
-    pub kind: AdvanceKind,
+    pub kind: u32,
 }
 
-// The kinds of advance by number, as the table has them.
+// What an advance is to its size, by number: half of it, up to it, up to twice it, or the size itself.
 const HALF_SIZE: u8 = 0;
 
 const TO_SIZE: u8 = 1;
@@ -90,18 +82,6 @@ pub(crate) fn wide(x: u8) -> u32
     x as u32
 }
 
-// A kind of advance by its number.
-fn kind_numbered(n: u32) -> AdvanceKind
-    ensures { λ k. ⌜ kindFrom k ≡ kindNumbered n ⌝ }
-{
-    match n {
-        0 => AdvanceKind::HalfSize,
-        1 => AdvanceKind::ToSize,
-        2 => AdvanceKind::ToTwice,
-        _ => AdvanceKind::FullSize,
-    }
-}
-
 // What the table, lent as `classes`, has for a class number.
 fn class_row(class: u32, classes: &[u8; 28]) -> ClassRow
     requires { ⌜ now classes ≡ classTable ⌝ }
@@ -114,7 +94,7 @@ fn class_row(class: u32, classes: &[u8; 28]) -> ClassRow
     };
     ClassRow {
         row: entry / 4,
-        kind: kind_numbered(entry % 4),
+        kind: entry % 4,
     }
 }
 
@@ -132,16 +112,24 @@ pub(crate) fn size_ok(size: u32) -> bool
     (size % 8 == 0) & between(8, 4000, size)
 }
 
-// Whether an advance is of its kind. The size may be any number here, so twice the size is taken in 64 bits.
-fn advance_ok(kind: AdvanceKind, size: u32, advance: u32) -> bool
-    ensures { λ b. ⌜ b ≡ advanceFits (kindFrom kind) size advance ⌝ }
+// Whether an advance is of its kind: from the least to the most that the kind allows. A `match` on the kind would be a
+// jump for each record. The size may be any number here, so twice the size is taken in 64 bits.
+fn advance_ok(kind: u32, size: u32, advance: u32) -> bool
+    ensures { λ b. ⌜ b ≡ advanceFits (kindNumbered kind) size advance ⌝ }
 {
-    match kind {
-        AdvanceKind::HalfSize => advance == size / 2,
-        AdvanceKind::ToSize => between(1, size, advance),
-        AdvanceKind::ToTwice => (1 <= advance) & (advance as u64 <= 2 * (size as u64)),
-        AdvanceKind::FullSize => advance == size,
-    }
+    let most: u64 = if kind == HALF_SIZE as u32 {
+        (size / 2) as u64
+    } else if kind == TO_TWICE as u32 {
+        2 * (size as u64)
+    } else {
+        size as u64
+    };
+    let least: u64 = if (kind == TO_SIZE as u32) | (kind == TO_TWICE as u32) {
+        1
+    } else {
+        most
+    };
+    (least <= advance as u64) & (advance as u64 <= most)
 }
 
 // No group and no ruby, or a group of ruby over hiragana, katakana or ideographic characters.

@@ -1,20 +1,23 @@
--- `compose::rows::fill_rows` meets its contract. The loop's invariant is `RowsScanned`. Assumes nothing.
+-- `compose::rows::fill_rows` meets its contract. The loop's invariant is `RowsScanned`, with the side of the unit that
+-- starts with record i. Assumes nothing.
 use native.Mathlib.Omega.{arith}
+use mathlib.Core.Logic.{inl, inr}
 use borrow.Author.Needs.{needs}
-use Rattle.compose.specs.Scan.{RowsScanned}
+use Rattle.rules.specs.Values.{sideOf}
+use Rattle.compose.specs.Scan.{RowsScanned, SideFrom}
 use Rattle.compose.proofs.RowScan.{unit-lower, scan-ill, scan-clean}
 use Rattle.compose.proofs.rows.fill_rows.Statement.{statement}
 use Rattle.compose.proofs.rows.fill_rows.Tie as tie
 
 abbrev Inv-loop : tie.InvT-loop
-Inv-loop ws start end classes spacing words advances₀ gaps₀ offsets₀ i₀ advances gaps offsets i =
-    RowsScanned ws start i advances gaps offsets
+Inv-loop ws start end classes spacing words ds₀ gs₀ os₀ i₀ next₀ ds gs os i next =
+    RowsScanned ws start i ds gs os × SideFrom ws i (sideOf next)
 
 abbrev μ-loop : tie.MeasureT-loop
-μ-loop ws start end classes spacing words advances₀ gaps₀ offsets₀ i₀ advances gaps offsets i = i
+μ-loop ws start end classes spacing words ds₀ gs₀ os₀ i₀ next₀ ds gs os i next = i
 
--- the function's entry, from where the tables are laid down; that place, from where the rows are lent; the loop's turn;
--- and the unit filled, from where the rows are given back
+-- the function's entry, from where the tables are laid down; that place, from where the rows are lent; the loop's
+-- turn; and the unit filled, from where the rows are given back
 abbrev entry : tie.After-entry-words Inv-loop μ-loop → tie.Start Inv-loop μ-loop
 entry c = c .before .before .before .before
 
@@ -32,38 +35,52 @@ filled c = gaps-back c .before .before .before
 
 loop-holds : tie.Need-loop-holds Inv-loop μ-loop
 loop-holds c =
-    let p = entry (laid c) .pre in
-    record {
-      scanning = p .scanning;
-      rows = p .rows;
-      advance-room = c .before .before .row-advances .given .0 .1;
-      gap-room = c .before .row-gaps .given .0 .1;
-      offset-room = c .row-offsets .given .0 .1;
-    }
+    let o = c .before in
+    let p = entry (laid o) .pre in (
+      record {
+        scanning = p .scanning;
+        rows = p .rows;
+        advance-room = o .before .before .row-advances .given .0 .1;
+        gap-room = o .before .row-gaps .given .0 .1;
+        offset-room = o .row-offsets .given .0 .1;
+      },
+      λ h.
+          elim (c .if1 .came) [
+            | inl w ↦ rw (w .2) (w .1 .ensures)
+            | inr w ↦ let z : ⊥ = omega (arith, w .0 .left) in absurd z
+          ],
+    )
 
 fill-unit-requires : tie.Need-fill-unit-requires Inv-loop μ-loop
 fill-unit-requires c κs =
     let t = turn c in
-    let w = laid (t .before .before) in (
-      (t .before .loop .inv, t .loop-test .taken),
-      record {
-        classes-are = w .before .before .class-table .ensures;
-        spacing-is = w .before .spacing-table .ensures;
-        words-are = w .entry-words .ensures;
-      },
+    let v = t .before .loop .inv in
+    let w = laid (t .before .before .before) in (
+      (v .0, t .loop-test .taken),
+      (
+        v .1,
+        record {
+          classes-are = w .before .before .class-table .ensures;
+          spacing-is = w .before .spacing-table .ensures;
+          words-are = w .entry-words .ensures;
+        },
+      ),
     )
 
 returns : tie.Need-returns Inv-loop μ-loop
-returns c = scan-ill (filled (c .before) .fill-unit .ensures) (c .if1 .taken)
+returns c = scan-ill (filled (c .before .before) .fill-unit .ensures) (c .if2 .taken)
 
 loop-less : tie.Need-loop-less Inv-loop μ-loop
-loop-less c = unit-lower (filled (c .before) .fill-unit .ensures) (c .if1 .left)
+loop-less c = let n = c .before in unit-lower (filled (n .before .before) .fill-unit .ensures) (n .if2 .left)
 
 loop-again : tie.Need-loop-again Inv-loop μ-loop
-loop-again c = filled (c .before) .fill-unit .ensures .scanned (c .if1 .left)
+loop-again c =
+    let n = c .before in
+    let u = filled (n .before .before) .fill-unit .ensures in
+    (u .scanned (n .if2 .left), λ h. u .side-is (n .if2 .left))
 
 returns-2 : tie.Need-returns-2 Inv-loop μ-loop
-returns-2 c = scan-clean (c .before .loop .inv) (omega arith)
+returns-2 c = scan-clean (c .before .loop .inv .0) (omega arith)
 
 pub fill-rows-spec : {M : Type 1} → statement M
 fill-rows-spec =
@@ -71,6 +88,7 @@ fill-rows-spec =
     (tie.spec
     Inv-loop
     μ-loop
+    (λ c κs. search needs)
     (λ c κs. search needs)
     (λ c κs. search needs)
     (λ c κs. search needs)

@@ -1,26 +1,37 @@
 -- `rules::records::advance_ok` meets its contract. Assumes nothing.
+use mathlib.Core.Path.{_≡_}
+use mathlib.Core.Logic.{⊎-elim}
 use borrow.Author.Needs.{needs}
+use borrow.Author.Tests.{eq-eqb, ne-eqb}
+use Rattle.rules.proofs.Rows.{mostOf, leastOf, fits-between}
 use Rattle.rules.proofs.records.advance_ok.Statement.{statement}
 use Rattle.rules.proofs.records.advance_ok.Tie as tie
 
+most-is : (c : tie.Joined1) → c .if1 .most ≡ mostOf (c .before .args .kind) (c .before .args .size)
+most-is c =
+    ⊎-elim (λ w. rw (eq-eqb _ _ (w .0 .taken)) (w .1))
+    (λ w.
+    ⊎-elim (λ v. rw (ne-eqb _ _ (v .0 .left), eq-eqb _ _ (v .1 .taken)) (v .2))
+    (λ v. rw (ne-eqb _ _ (v .0 .left), ne-eqb _ _ (v .1 .left)) (v .2)) w)
+    (c .if1 .came)
+
+least-is : (c : tie.Joined3) → c .if3 .least ≡ leastOf (c .before .before .args .kind) (c .before .if1 .most)
+least-is c =
+    ⊎-elim (λ w. rw (w .0 .taken) (w .1)) (λ w. rw (w .0 .left) (w .1)) (c .if3 .came)
+
 returns : tie.Need-returns
-returns c = rw (c .enum-told .given .1)
-
-returns-2 : tie.Need-returns-2
-returns-2 c = rw (c .between .ensures, c .before .enum-told2 .given .1)
-
-returns-3 : tie.Need-returns-3
-returns-3 c = rw (c .enum-told3 .given .1)
-
-returns-4 : tie.Need-returns-4
-returns-4 c = rw (c .enum-told4 .given .1)
+returns c =
+    let a = c .before .before .args in
+    rw (least-is c, most-is (c .before)) (fits-between (a .kind) (a .size) (a .advance))
 
 pub advance-ok-spec : {M : Type 1} → statement M
 advance-ok-spec =
     tie.close
     (tie.spec
     (λ c. search needs)
-    (λ c. search needs) (λ c κs. search needs)
-    (λ c. search needs) (λ c. search needs)
     (λ c. search needs)
-    returns returns-2 returns-3 returns-4)
+    (λ c. search needs)
+    (λ c. search needs)
+    (λ c. search needs)
+    (λ c. search needs)
+    returns)

@@ -17,10 +17,10 @@ entry-is c =
 
 returns : tie.Need-returns
 returns c =
-    let e = entry-is (c .before .before) in
+    let e = entry-is (c .before) in
     record {
       row = ap (λ n. n / 4) e ∙ entry-row _;
-      kind = c .kind-numbered .ensures ∙ ap (λ n. kindNumbered (n % 4)) e ∙ entry-kind _;
+      kind = ap (λ n. kindNumbered (n % 4)) e ∙ entry-kind _;
     }
 
 pub class-row-spec : {M : Type 1} → statement M
@@ -28,7 +28,6 @@ class-row-spec =
     tie.close
     (tie.spec
     (λ c. search needs)
-    (λ c κs. search needs)
     (λ c κs. search needs)
     (λ c κs. search needs)
     returns)

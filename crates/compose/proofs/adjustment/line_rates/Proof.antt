@@ -1,0 +1,47 @@
+-- `compose::adjustment::line_rates` meets its contract. Assumes nothing.
+use mathlib.Core.Path.{sym}
+use native.Mathlib.Omega.{arith}
+use borrow.Author.Needs.{needs}
+use Rattle.rules.proofs.Facts.{true-false}
+use Rattle.compose.proofs.adjustment.line_rates.Statement.{statement}
+use Rattle.compose.proofs.adjustment.line_rates.Tie as tie
+
+returns : tie.Need-returns
+returns c =
+    let t = c .before .before in
+    record {
+      shrinking =
+          λ z.
+          record {
+            first = c .before .rate .ensures;
+            second = c .rate2 .ensures;
+            unstretched = t .before .before .pre .one-way (t .if1 .taken);
+          };
+      stretching = λ z. absurd (true-false z);
+    }
+
+returns-2 : tie.Need-returns-2
+returns-2 c =
+    let l = c .before .before .if1 .left in
+    record {
+      shrinking = λ z. absurd (true-false (sym z));
+      stretching =
+          λ z.
+          record {
+            first = c .before .rate3 .ensures;
+            second = c .rate4 .ensures;
+            unshrunk = omega (arith, l);
+          };
+    }
+
+pub line-rates-spec : {M : Type 1} → statement M
+line-rates-spec =
+    tie.close
+    (tie.spec
+    (λ c. search needs)
+    (λ c κs. search needs)
+    (λ c κs. search needs)
+    (λ c κs. search needs)
+    (λ c κs. search needs)
+    returns
+    returns-2)
