@@ -1,7 +1,7 @@
 -- Answers 8, 12, 9 and 10 from the places that the searches give. Assumes nothing.
 use mathlib.Core.Path.{_≡_, refl, sym, ap, _∙_}
 use mathlib.Core.List.{List, [], _∷_, _++_}
-use mathlib.Core.Bool.{Bool, _&&_}
+use mathlib.Core.Bool.{Bool, _&&_, true}
 use mathlib.Core.Logic.{inl, inr}
 use mathlib.Core.Option.{Option, none, some}
 use Prim.Native.Nat.{ℕ, zero, suc, _+_, _≤_, _<_}
@@ -26,7 +26,7 @@ use Rattle.rules.proofs.Words.{length-records}
 use Rattle.compose.specs.Paragraph.{size, paragraph, Checked, placeOr}
 use Rattle.compose.specs.Lines.{firsts, broken, composed, Broken}
 use Rattle.compose.specs.Rows.{Rowed}
-use Rattle.compose.specs.Scan.{Clean, Scanned}
+use Rattle.compose.specs.Scan.{Clean, Scanned, Front}
 use Rattle.compose.specs.Composed.{RowsJudged, Kept, Started}
 
 -- a place below n names an answer; n itself names none, where answers name places below n
@@ -131,9 +131,14 @@ module _ {ws ds gs os : List ℕ} {number place : ℕ} where
   rows-accepted e c r =
       record { records = record { refused = λ q. absurd (q e); accepted = λ q. c }; rows = λ q. r }
 
--- a clean paragraph's rows are filled
-pub clean-rows : {ws ds gs os : List ℕ} {b : Bool} → Scanned ws ds gs os b → Clean ws → Rowed ws ds gs os 0
-clean-rows {b = b} s c = elim (tested b) [ inl e ↦ s .rows e | inr e ↦ absurd (s .ill e c) ]
+-- what the scan's yes says, where what stands before is known; and a clean paragraph's rows are filled
+module _ {ws ds₀ gs₀ os₀ ds gs os : List ℕ} {start stop : ℕ} {b : Bool}
+    (s : Scanned ws start stop ds₀ gs₀ os₀ ds gs os b) (f : Front ws start stop ds₀ gs₀ os₀) where
+  pub scanned-clean : b ≡ true → Clean ws × Rowed ws ds gs os 0
+  scanned-clean e = let r = s .reached e in f (r .at) ds gs os (r .low) (r .rows) (r .below)
+
+  pub clean-rows : Clean ws → Rowed ws ds gs os 0
+  clean-rows c = elim (tested b) [ inl e ↦ scanned-clean e .1 | inr e ↦ absurd (s .ill e c) ]
 
 -- there are as many lines as the breaking gives, and no more than records
 pub lines-composed : (ws : List ℕ) (m x : ℕ) → length (composed ws m x) ≡ length (broken ws m x)

@@ -37,7 +37,7 @@ no-group : (p r : Rec) → r .group ≡ 0 → sameGroup p r ≡ false
 no-group p r z = rw z
 
 -- a record that is an earlier one of its group leaves more room
-fault-less : (i j n k : ℕ) (p : Rec) (rs : List Rec) → k ≤ n → badGroup i n p rs ≡ none → badGroup j k p rs ≡ none
+pub fault-less : (i j n k : ℕ) (p : Rec) (rs : List Rec) → k ≤ n → badGroup i n p rs ≡ none → badGroup j k p rs ≡ none
 unfolding badGroup
 fault-less i j n k p [] l h = refl
 fault-less i j n k p (r ∷ rs) l h =
@@ -98,7 +98,7 @@ held-moved {ds} {gs} {os} {ds′} {gs′} {os′} {i} j (held-more {r = r} {rs =
 
 -- where records are cut, so are units -----------------------------------------------------------------------------
 
-last-record : (ws : List ℕ) (i n : ℕ) → lastOf (recAt ws i) (records ws (suc i) n) ≡ recAt ws (i + n)
+pub last-record : (ws : List ℕ) (i n : ℕ) → lastOf (recAt ws i) (records ws (suc i) n) ≡ recAt ws (i + n)
 unfolding records
 last-record ws i zero = rw add-zero
 last-record ws i (suc n) = let e : suc i + n ≡ i + suc n = omega arith in last-record ws (suc i) n ∙ rw e
@@ -120,11 +120,11 @@ units-apart ws n (suc k) e =
 
 module _ (ws : List ℕ) (a : ℕ) (h : a ≤ size ws)
     (e : 0 < a → a < size ws → sameGroup (recAt ws (a - 1)) (recAt ws a) ≡ false) where
-  records-apart : records ws 0 a ++ records ws a (size ws - a) ≡ paragraph ws
+  pub records-apart : records ws 0 a ++ records ws a (size ws - a) ≡ paragraph ws
   records-apart =
       (λ t. sym (take-records ws 0 (size ws) a h) t ++ sym (records-left ws a h) t) ∙ take-append-drop a (paragraph ws)
 
-  from-apart : units (records ws 0 a) ++ from ws a ≡ from ws 0
+  pub from-apart : units (records ws 0 a) ++ from ws a ≡ from ws 0
   unfolding from units cut records
   from-apart =
       elim (ordered 0 a) [

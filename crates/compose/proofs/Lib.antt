@@ -9,12 +9,14 @@ pub mod GroupScan
 pub mod UnitWalk
 pub mod Joints
 pub mod RowsStored
+pub mod RowsBelow
 pub mod UnitRows
 pub mod RowScan
 pub mod HeldRows
--- the rows that an edit keeps: `keep_rows`
+-- the rows that an edit keeps, after it (`keep_rows`) and before it
 pub mod RowsMoved
 pub mod KeptRows
+pub mod FrontRows
 -- the breaking: `longest_line` and `break_lines`
 pub mod GapSums
 pub mod LineRuns

@@ -19,7 +19,7 @@ use Rattle.rules.proofs.Facts.{ordered, true-false}
 use Rattle.rules.proofs.FirstFailing.{all-pass}
 use Rattle.rules.proofs.Limits.{asked}
 use Rattle.compose.specs.Scan.{Fine, Clean, Scanning, UnitBefore, AfterUnit, SideFrom, RowsScanned, UnitToFill}
-use Rattle.compose.specs.Scan.{RowsFilled, UnitFilled, RowsFrom, Scanned}
+use Rattle.compose.specs.Scan.{RowsFilled, UnitFilled, RowsFrom, Below, Scanned, Front}
 use Rattle.compose.specs.Rows.{rowsOf, held-none}
 use Rattle.compose.specs.Paragraph.{size}
 use Rattle.compose.specs.declared.rows.UnitSums.{UnitSums}
@@ -30,13 +30,20 @@ use Rattle.compose.proofs.Faults.{records-end}
 use Rattle.compose.proofs.Limits.{side-limits}
 use Rattle.compose.proofs.Joints.{gap-after, tie-after}
 use Rattle.compose.proofs.UnitWalk.{unit-alone}
+use Rattle.compose.proofs.RowsBelow.{below-trans}
 use Rattle.compose.proofs.UnitRows.{fill-start, fill-done}
 
 -- answer 8 or 9 applies to a record of the unit before record i
-pub unit-ill : {ws : List ℕ} {start i : ℕ} {ds gs os : List ℕ} {s : SideValue} → (Clean ws → ⊥) →
-    UnitFilled ws start i ds gs os (record { first = i; side = s })
+pub unit-ill : {ws : List ℕ} {start i : ℕ} {ds₀ gs₀ os₀ ds gs os : List ℕ} {s : SideValue} → (Clean ws → ⊥) →
+    UnitFilled ws start i ds₀ gs₀ os₀ ds gs os (record { first = i; side = s })
 unit-ill h =
-    record { low = omega arith; ill = λ e. h; scanned = λ n. absurd (n refl); side-is = λ n. absurd (n refl) }
+    record {
+      low = omega arith;
+      ill = λ e. h;
+      scanned = λ n. absurd (n refl);
+      below = λ n. absurd (n refl);
+      side-is = λ n. absurd (n refl);
+    }
 
 -- what the next unit's side must keep for a gap to be looked up
 pub next-ok : {ws : List ℕ} {start i : ℕ} {t : Side} → Scanning ws start i → SideFrom ws i t → i < size ws → SideOk t
@@ -95,8 +102,8 @@ module _ {ws : List ℕ} {start i : ℕ} {r : Rec} {u : UnitSums} {s : SideValue
         offset-room = p .offset-room;
       }
 
-  pub unit-filled : {ds gs os : List ℕ} → RowsFilled ws (u .first) ds gs os →
-      UnitFilled ws start i ds gs os (record { first = u .first; side = s })
+  pub unit-filled : {ds₀ gs₀ os₀ ds gs os : List ℕ} → RowsFilled ws (u .first) ds₀ gs₀ os₀ ds gs os →
+      UnitFilled ws start i ds₀ gs₀ os₀ ds gs os (record { first = u .first; side = s })
   unit-filled f =
       record {
         low = m .before .low;
@@ -110,6 +117,7 @@ module _ {ws : List ℕ} {start i : ℕ} {r : Rec} {u : UnitSums} {s : SideValue
               gap-room = f .gap-room;
               offset-room = f .offset-room;
             };
+        below = λ d. f .below;
         side-is = λ d. m .side-is;
       }
 
@@ -131,7 +139,7 @@ module _ {ws : List ℕ} {first end base gap tied : ℕ} {ds gs os : List ℕ}
   own-advance = rw z (omega arith)
 
   pub lone-filled : {ds' gs' os' : List ℕ} {w : ℕ} → base ≡ w → ds' ≡ set ds (end - 1) (2 * w + tied) →
-      gs' ≡ set gs (end - 1) gap → os' ≡ set os (end - 1) 0 → RowsFilled ws first ds' gs' os'
+      gs' ≡ set gs (end - 1) gap → os' ≡ set os (end - 1) 0 → RowsFilled ws first ds gs os ds' gs' os'
   lone-filled e a b c =
       let d : end - 1 ≡ first = omega arith in
       fill-done t (rw d at q) (fill-start t) no-offset (omega arith) (sym e ∙ own-advance) a b c
@@ -154,34 +162,39 @@ rows-none {ws} h =
       rows = rw (from-end ws (size ws) (omega arith)) held-none;
     }
 
--- one unit less is left
-pub unit-lower : {ws : List ℕ} {start i : ℕ} {ds gs os : List ℕ} {d : UnitDone} → UnitFilled ws start i ds gs os d →
-    (d .first ≡ i → ⊥) → d .first < i
-unit-lower {i = i} {d = d} u n =
-    elim (ordered (d .first) i) [ inl h ↦ h | inr h ↦ absurd (n (omega (arith, u .low))) ]
+-- the unit before record i is met: whether one unit less is left
+module _ {ws : List ℕ} {start i : ℕ} {ds₀ gs₀ os₀ ds gs os : List ℕ} {d : UnitDone}
+    (u : UnitFilled ws start i ds₀ gs₀ os₀ ds gs os d) where
+  pub unit-lower : (d .first ≡ i → ⊥) → d .first < i
+  unit-lower n = elim (ordered (d .first) i) [ inl h ↦ h | inr h ↦ absurd (n (omega (arith, u .low))) ]
 
--- how the scan ends
-pub scan-ill : {ws : List ℕ} {start i : ℕ} {ds gs os : List ℕ} {d : UnitDone} → UnitFilled ws start i ds gs os d →
-    d .first ≡ i → Scanned ws ds gs os false
-scan-ill u e =
-    record {
-      clean = λ d. absurd (true-false (sym d));
-      rows = λ d. absurd (true-false (sym d));
-      ill = λ d. u .ill e;
-    }
+  -- the rows before it are those at the scan's start
+  pub below-lower : {ds₁ gs₁ os₁ : List ℕ} → Below i ds₁ gs₁ os₁ ds₀ gs₀ os₀ → (d .first ≡ i → ⊥) →
+      Below (d .first) ds₁ gs₁ os₁ ds gs os
+  below-lower b n = below-trans b (u .below n) (u .low)
 
-pub scan-clean : {ws : List ℕ} {start i : ℕ} {ds gs os : List ℕ} → RowsScanned ws start i ds gs os → i ≡ 0 →
-    Scanned ws ds gs os true
-unfolding badRecord
-scan-clean {ws} s e =
-    let c = rw e at (s .scanning) in
+  -- how the scan ends
+  pub scan-ill : {stop : ℕ} {ds₁ gs₁ os₁ ds₂ gs₂ os₂ : List ℕ} → d .first ≡ i →
+      Scanned ws start stop ds₁ gs₁ os₁ ds₂ gs₂ os₂ false
+  scan-ill e = record { reached = λ d. absurd (true-false (sym d)); ill = λ d. u .ill e }
+
+pub scan-reached : {ws : List ℕ} {start stop i : ℕ} {ds₀ gs₀ os₀ ds gs os : List ℕ} →
+    RowsScanned ws start i ds gs os → Below i ds₀ gs₀ os₀ ds gs os → i ≤ stop →
+    Scanned ws start stop ds₀ gs₀ os₀ ds gs os true
+scan-reached {i = i} s b l =
     record {
-      clean =
+      reached =
           λ d.
-          record {
-            sound = all-pass recOk 0 (rw sub-zero at (c .sound));
-            grouped = rw sub-zero at (c .grouped);
-          };
-      rows = λ d. rw e at (s .rows);
+          record { at = i; low = l; rows = record { scanning = s .scanning; rows = s .rows }; below = b };
       ill = λ d. absurd (true-false d);
     }
+
+-- a scan down to record 0 needs no row before it
+pub front-none : (ws : List ℕ) (start : ℕ) (ds gs os : List ℕ) → Front ws start 0 ds gs os
+unfolding badRecord
+front-none ws start ds₀ gs₀ os₀ i ds gs os l r b =
+    let e : i ≡ 0 = omega arith in
+    let c = rw e at (r .scanning) in (
+      record { sound = all-pass recOk 0 (rw sub-zero at (c .sound)); grouped = rw sub-zero at (c .grouped) },
+      rw e at (r .rows),
+    )

@@ -20,11 +20,12 @@ use Rattle.rules.proofs.GapWords.{GapBounds, gap-bounds}
 use Rattle.rules.proofs.Words.{take-records}
 use Rattle.compose.specs.Paragraph.{size, from, unitAt, nextAt}
 use Rattle.compose.specs.Rows.{outer, rowsOf, bit, RowIs, held-more, Rowed}
-use Rattle.compose.specs.Scan.{UnitToFill, RowsFilled}
+use Rattle.compose.specs.Scan.{UnitToFill, Below, RowsFilled}
 use Rattle.compose.proofs.Walk.{from-end, unit-step}
 use Rattle.compose.proofs.Limits.{record-limits, side-limits, unit-advance}
 use Rattle.compose.proofs.RowsStored.{held-kept, Written, written-none, written-kept, written-last, row-stored}
 use Rattle.compose.proofs.RowsStored.{unit-held, inner-is, outer-is, last-gap}
+use Rattle.compose.proofs.RowsBelow.{below-refl, below-set}
 
 -- a unit's records, by their number
 unit-whole : (ws : List ℕ) (a : ℕ) → a < size ws → whole (unitAt ws a) ≡ records ws a (count (unitAt ws a))
@@ -71,12 +72,13 @@ bit-small true = omega arith
 bit-small false = omega arith
 
 -- k rows are written, and the last one is not; `solid` is what their records take
-pub record UnitFilling (ws : List ℕ) (first end : ℕ) (ds gs os : List ℕ) (solid k : ℕ) : Type 0 where
+pub record UnitFilling (ws : List ℕ) (first end : ℕ) (ds₀ gs₀ os₀ ds gs os : List ℕ) (solid k : ℕ) : Type 0 where
   pub inside : first + k < end
   pub done : List ℕ
   pub written : Written ds gs os first done (first + k)
   pub left : done ++ offsetsFrom ws first k solid ≡ baseOffsets (unitAt ws first)
   pub rows : Rowed ws ds gs os end
+  pub below : Below first ds₀ gs₀ os₀ ds gs os
   pub limit : solid ≤ 8000 * k
   pub advance-room : length ds ≡ 256
   pub gap-room : length gs ≡ 256
@@ -105,7 +107,7 @@ module _ {ws : List ℕ} {first end base gap tied : ℕ} {ds₀ gs₀ os₀ : Li
         tied-small = rw (t .tied-is) (bit-small (outer (unitAt ws first) (from ws end) 0 .tied));
       }
 
-  pub fill-start : UnitFilling ws first end ds₀ gs₀ os₀ 0 0
+  pub fill-start : UnitFilling ws first end ds₀ gs₀ os₀ ds₀ gs₀ os₀ 0 0
   fill-start =
       let l = unit-limits in
       record {
@@ -114,6 +116,7 @@ module _ {ws : List ℕ} {first end base gap tied : ℕ} {ds₀ gs₀ os₀ : Li
         written = rw add-zero written-none;
         left = offsets-all ws first (l .start);
         rows = t .rows;
+        below = below-refl first ds₀ gs₀ os₀;
         limit = omega arith;
         advance-room = t .advance-room;
         gap-room = t .gap-room;
@@ -146,8 +149,8 @@ module _ {ws : List ℕ} {first end base gap tied : ℕ} {ds₀ gs₀ os₀ : Li
             })
       ]
 
-  pub solid-limit : {ds gs os : List ℕ} {solid k : ℕ} → UnitFilling ws first end ds gs os solid k → {q : Rec} →
-      q ≡ recAt ws (first + k) → solid + q .advance ≤ 128000
+  pub solid-limit : {ds gs os : List ℕ} {solid k : ℕ} → UnitFilling ws first end ds₀ gs₀ os₀ ds gs os solid k →
+      {q : Rec} → q ≡ recAt ws (first + k) → solid + q .advance ≤ 128000
   solid-limit {k = k} f w =
       let l = unit-limits in
       let i = f .inside in
@@ -166,7 +169,7 @@ module _ {ws : List ℕ} {first end base gap tied : ℕ} {ds₀ gs₀ os₀ : Li
     advance-limit =
         rw advance-is (unit-advance ws first (t .unit .fine) (unit-limits .start) (t .unit .few-records))
 
-    module _ {ds gs os : List ℕ} {solid k : ℕ} (f : UnitFilling ws first end ds gs os solid k) where
+    module _ {ds gs os : List ℕ} {solid k : ℕ} (f : UnitFilling ws first end ds₀ gs₀ os₀ ds gs os solid k) where
       pub offset-bounds : OffsetBounds (r .ruby) (r .size) (end - first) k solid
       offset-bounds =
           let l = unit-limits in
@@ -195,7 +198,7 @@ module _ {ws : List ℕ} {first end base gap tied : ℕ} {ds₀ gs₀ os₀ : Li
         -- the row of record k is stored, which is not the last
         pub fill-more : {ds' gs' os' : List ℕ} {q : Rec} → k + 1 < end - first →
             ds' ≡ set ds (first + k) 1 → gs' ≡ set gs (first + k) 0 → os' ≡ set os (first + k) o →
-            q ≡ recAt ws (first + k) → UnitFilling ws first end ds' gs' os' (solid + q .advance) (k + 1)
+            q ≡ recAt ws (first + k) → UnitFilling ws first end ds₀ gs₀ os₀ ds' gs' os' (solid + q .advance) (k + 1)
         fill-more {q = q} h a b c w =
             let l = unit-limits in
             let i = f .inside in
@@ -212,6 +215,7 @@ module _ {ws : List ℕ} {first end base gap tied : ℕ} {ds₀ gs₀ os₀ : Li
                   (omega (arith, f .advance-room)) (omega (arith, f .gap-room)) (omega (arith, f .offset-room))));
               left = rw (append-assoc, offset-is) (rw (offsets-more ws first k solid (omega arith)) at (f .left));
               rows = held-kept ds gs os (first + k) 1 0 o (omega arith) (f .rows);
+              below = below-set 1 0 o (f .below) (omega arith);
               limit = omega (arith, f .limit);
               advance-room = simp length-set (f .advance-room);
               gap-room = simp length-set (f .gap-room);
@@ -255,7 +259,7 @@ module _ {ws : List ℕ} {first end base gap tied : ℕ} {ds₀ gs₀ os₀ : Li
 
           pub fill-done : {ds' gs' os' : List ℕ} {w : ℕ} → w ≡ groupAdvance base (r .ruby) (r .size) →
               ds' ≡ set ds (end - 1) (2 * w + tied) → gs' ≡ set gs (end - 1) gap → os' ≡ set os (end - 1) o →
-              RowsFilled ws first ds' gs' os'
+              RowsFilled ws first ds₀ gs₀ os₀ ds' gs' os'
           fill-done w a b c =
               let l = unit-limits in
               let i = f .inside in
@@ -263,6 +267,7 @@ module _ {ws : List ℕ} {first end base gap tied : ℕ} {ds₀ gs₀ os₀ : Li
               rw (a, b, c, n, w)
               (record {
                 rows = rows-done;
+                below = below-set word gap o (f .below) (omega arith);
                 advance-room = simp length-set (f .advance-room);
                 gap-room = simp length-set (f .gap-room);
                 offset-room = simp length-set (f .offset-room);

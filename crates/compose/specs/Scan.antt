@@ -5,7 +5,9 @@
 --   unit before     the unit that ends before record i, or i where 8 or 9 applies to one of its records
 --   after unit      what stands after a unit: the gap and the tie of its last row
 --   side from       what a unit's left neighbour sees of it
---   scanned         answers 8 and 9 apply to no record and all rows are filled; or one of them applies
+--   below           tables that have the same rows below a row
+--   scanned         the rows are filled down to the unit that record `stop` is in; or 8 or 9 applies to a record
+--   front           what must be known of the rows before that unit, so that all are filled then
 --
 -- Assumes nothing.
 use mathlib.Core.Path.{_≡_}
@@ -13,7 +15,7 @@ use Prim.Native.Nat.{ℕ, _+_, _-_, _≤_, _<_}
 use mathlib.Core.Bool.{Bool, true, false}
 use mathlib.Core.List.{List, _∷_}
 use mathlib.Core.Option.{none}
-use lib.ListN.{length, take}
+use lib.ListN.{length, take, getD}
 use Rattle.rules.specs.Records.{Rec, recAt, records, recOk, badRecord}
 use Rattle.rules.specs.Groups.{sameGroup, groupFault, count, baseTotal}
 use Rattle.rules.specs.Sides.{Side, sideBy, forbidden}
@@ -94,20 +96,42 @@ pub record UnitToFill (ws : List ℕ) (first end base gap tied : ℕ) (ds gs os 
   pub gap-room : length gs ≡ 256
   pub offset-room : length os ≡ 256
 
--- with the rows of the unit that starts with record `first`
-pub record RowsFilled (ws : List ℕ) (first : ℕ) (ds gs os : List ℕ) : Type 0 where
+-- tables that have the same rows below row n
+pub record Below (n : ℕ) (ds₀ gs₀ os₀ ds gs os : List ℕ) : Type 0 where
+  pub advances : (k : ℕ) → k < n → getD ds k 0 ≡ getD ds₀ k 0
+  pub gaps : (k : ℕ) → k < n → getD gs k 0 ≡ getD gs₀ k 0
+  pub offsets : (k : ℕ) → k < n → getD os k 0 ≡ getD os₀ k 0
+
+-- with the rows of the unit that starts with record `first`, and those before it as they were
+pub record RowsFilled (ws : List ℕ) (first : ℕ) (ds₀ gs₀ os₀ ds gs os : List ℕ) : Type 0 where
   pub rows : Rowed ws ds gs os first
+  pub below : Below first ds₀ gs₀ os₀ ds gs os
   pub advance-room : length ds ≡ 256
   pub gap-room : length gs ≡ 256
   pub offset-room : length os ≡ 256
 
-pub record UnitFilled (ws : List ℕ) (start i : ℕ) (ds gs os : List ℕ) (r : UnitDone) : Type 0 where
+pub record UnitFilled (ws : List ℕ) (start i : ℕ) (ds₀ gs₀ os₀ ds gs os : List ℕ) (r : UnitDone) : Type 0 where
   pub low : r .first ≤ i
   pub ill : r .first ≡ i → Clean ws → ⊥
   pub scanned : (r .first ≡ i → ⊥) → RowsScanned ws start (r .first) ds gs os
+  pub below : (r .first ≡ i → ⊥) → Below (r .first) ds₀ gs₀ os₀ ds gs os
   pub side-is : (r .first ≡ i → ⊥) → sideOf (r .side) ≡ sideBy (recAt ws (r .first))
 
-pub record Scanned (ws ds gs os : List ℕ) (b : Bool) : Type 0 where
-  pub clean : b ≡ true → Clean ws
-  pub rows : b ≡ true → Rowed ws ds gs os 0
+-- the rows are filled from a record on that is not past `stop`, and those before it are as they were
+pub record Reached (ws : List ℕ) (start stop : ℕ) (ds₀ gs₀ os₀ ds gs os : List ℕ) : Type 0 where
+  pub at : ℕ
+  pub low : at ≤ stop
+  pub rows : RowsFrom ws start at ds gs os
+  pub below : Below at ds₀ gs₀ os₀ ds gs os
+
+-- what the scan says: yes, and the rows are filled down to `stop`; or no, and answer 8 or 9 applies to a record
+pub record Scanned (ws : List ℕ) (start stop : ℕ) (ds₀ gs₀ os₀ ds gs os : List ℕ) (b : Bool) : Type 0 where
+  pub reached : b ≡ true → Reached ws start stop ds₀ gs₀ os₀ ds gs os
   pub ill : b ≡ false → Clean ws → ⊥
+
+-- the rows before a record that is not past `stop` are known to be filled and their records to be clean: so all are,
+-- once the scan has come there
+abbrev pub Front : List ℕ → ℕ → ℕ → List ℕ → List ℕ → List ℕ → Type 0
+Front ws start stop ds₀ gs₀ os₀ =
+    (i : ℕ) (ds gs os : List ℕ) → i ≤ stop → RowsFrom ws start i ds gs os → Below i ds₀ gs₀ os₀ ds gs os →
+    Clean ws × Rowed ws ds gs os 0

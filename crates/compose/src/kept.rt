@@ -32,66 +32,93 @@ fn unit_from(ws: &[u32], a: usize) -> usize
     n
 }
 
-// Copies `count` rows from row `start` on into other tables, from row `to` on.
-fn move_rows(
-    advances: &[u32; 256],
-    gaps: &[u64; 256],
-    offsets: &[u32; 256],
+// Moves `count` rows from row `start` on to row `to`, upwards: `to` is not past `start`.
+fn move_up(
     start: usize,
     to: usize,
     count: usize,
-    new_advances: &mut [u32],
-    new_gaps: &mut [u64],
-    new_offsets: &mut [u32],
+    advances: &mut [u32],
+    gaps: &mut [u64],
+    offsets: &mut [u32],
 )
-    requires { ⌜ ToMove start to count (now «new_advances») (now «new_gaps») (now «new_offsets») ⌝ }
+    requires { ⌜ ToMove start to count (now advances) (now gaps) (now offsets) × (to ≤ start) ⌝ }
     ensures { λ _. ⌜ RowsMoved (now (advances .entry)) (now (gaps .entry)) (now (offsets .entry)) start to count
-        (now («new_advances» .exit)) (now («new_gaps» .exit)) (now («new_offsets» .exit)) ⌝ }
+        (now (advances .exit)) (now (gaps .exit)) (now (offsets .exit)) ⌝ }
 {
     let mut k: usize = 0;
     while k < count {
-        put_row(
-            new_advances,
-            new_gaps,
-            new_offsets,
-            to + k,
-            advances[start + k],
-            gaps[start + k],
-            offsets[start + k],
-        );
+        let i = start + k;
+        let advance = advances[i];
+        let gap = gaps[i];
+        let offset = offsets[i];
+        put_row(advances, gaps, offsets, to + k, advance, gap, offset);
         k += 1;
     }
 }
 
-// Copies the rows of an old paragraph that a new one keeps, where its records from record `start` on are the new one's
+// The same downwards, from the last row on: `start` is not past `to`.
+fn move_down(
+    start: usize,
+    to: usize,
+    count: usize,
+    advances: &mut [u32],
+    gaps: &mut [u64],
+    offsets: &mut [u32],
+)
+    requires { ⌜ ToMove start to count (now advances) (now gaps) (now offsets) × (start ≤ to) ⌝ }
+    ensures { λ _. ⌜ RowsMoved (now (advances .entry)) (now (gaps .entry)) (now (offsets .entry)) start to count
+        (now (advances .exit)) (now (gaps .exit)) (now (offsets .exit)) ⌝ }
+{
+    let mut k = count;
+    while 0 < k {
+        k -= 1;
+        let i = start + k;
+        let advance = advances[i];
+        let gap = gaps[i];
+        let offset = offsets[i];
+        put_row(advances, gaps, offsets, to + k, advance, gap, offset);
+    }
+}
+
+// Moves `count` rows from row `start` on to row `to`.
+fn move_rows(
+    start: usize,
+    to: usize,
+    count: usize,
+    advances: &mut [u32],
+    gaps: &mut [u64],
+    offsets: &mut [u32],
+)
+    requires { ⌜ ToMove start to count (now advances) (now gaps) (now offsets) ⌝ }
+    ensures { λ _. ⌜ RowsMoved (now (advances .entry)) (now (gaps .entry)) (now (offsets .entry)) start to count
+        (now (advances .exit)) (now (gaps .exit)) (now (offsets .exit)) ⌝ }
+{
+    if to < start {
+        move_up(start, to, count, advances, gaps, offsets);
+    } else {
+        // an edit that puts as many records in as it takes out leaves them where they are
+        if start < to {
+            move_down(start, to, count, advances, gaps, offsets);
+        }
+    }
+}
+
+// Moves the rows of an old paragraph that a new one keeps, where its records from record `start` on are the new one's
 // from record `to` on. From the record that is answered on the new paragraph's rows are filled.
 pub fn keep_rows(
     ws: &[u32],
     start: usize,
     to: usize,
-    advances: &[u32; 256],
-    gaps: &[u64; 256],
-    offsets: &[u32; 256],
-    new_advances: &mut [u32],
-    new_gaps: &mut [u64],
-    new_offsets: &mut [u32],
+    advances: &mut [u32; 256],
+    gaps: &mut [u64; 256],
+    offsets: &mut [u32; 256],
 ) -> usize
-    requires { ⌜ ToKeep (now ws) start to (now «new_advances») (now «new_gaps») (now «new_offsets») ⌝ }
+    requires { ⌜ ToKeep (now ws) start to ⌝ }
     ensures { λ r. ⌜ KeptFrom (now (ws .entry)) start to (now (advances .entry)) (now (gaps .entry))
-        (now (offsets .entry)) (now («new_advances» .exit)) (now («new_gaps» .exit)) (now («new_offsets» .exit)) r ⌝ }
+        (now (offsets .entry)) (now (advances .exit)) (now (gaps .exit)) (now (offsets .exit)) r ⌝ }
 {
     let first = unit_from(ws, start);
     let kept = to + (first - start);
-    move_rows(
-        advances,
-        gaps,
-        offsets,
-        first,
-        kept,
-        ws.len() / 6 - first,
-        new_advances,
-        new_gaps,
-        new_offsets,
-    );
+    move_rows(first, kept, ws.len() / 6 - first, advances, gaps, offsets);
     kept
 }

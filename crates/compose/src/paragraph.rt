@@ -2,7 +2,7 @@
 ghost use mathlib.Core.Path.{_≡_};
 ghost use Prim.Native.Nat.{_≤_};
 ghost use Rattle.compose.specs.Paragraph.{ListedBut};
-ghost use Rattle.compose.specs.Scan.{RowsFrom};
+ghost use Rattle.compose.specs.Scan.{RowsFrom, Front};
 ghost use Rattle.compose.specs.Composed.{Fitting, Kept, RowsJudged, Started, Composed};
 use crate::breaking::break_lines;
 use crate::checks::first_bad_record;
@@ -29,12 +29,13 @@ fn says(number: u32, place: usize) -> Answer
 }
 
 // Answers 8, 12 and 9 of a paragraph, which no measure changes; or 0, and its rows are filled. Its rows from record
-// `kept` on are filled already. Of the records before `start` it is known that they keep their own rules, and of those
-// outside of `start` up to `end` that they are listed.
+// `kept` on are filled already, and those before the unit that record `stop` is in. Of the records before `start` it is
+// known that they keep their own rules, and of those outside of `start` up to `end` that they are listed.
 fn check_records(
     ws: &[u32],
     start: usize,
     end: usize,
+    stop: usize,
     kept: usize,
     advances: &mut [u32; 256],
     gaps: &mut [u64; 256],
@@ -42,11 +43,12 @@ fn check_records(
 ) -> Answer
     requires { ⌜ ListedBut (now ws) start end ⌝ }
     requires { ⌜ RowsFrom (now ws) start kept (now advances) (now gaps) (now offsets) ⌝ }
+    requires { ⌜ Front (now ws) start stop (now advances) (now gaps) (now offsets) ⌝ }
     ensures { λ r. ⌜ RowsJudged (now (ws .entry)) (now (advances .exit)) (now (gaps .exit)) (now (offsets .exit))
         (r .number) (r .place) ⌝ }
 {
     let n = ws.len() / 6;
-    let well = fill_rows(ws, start, kept, advances, gaps, offsets);
+    let well = fill_rows(ws, start, stop, kept, advances, gaps, offsets);
     // where something is wrong, the first of it is looked for
     if !well {
         let bad = first_bad_record(ws);
@@ -84,7 +86,7 @@ pub fn check(
         (now (offsets .exit))) ⌝ }
 {
     let n = ws.len() / 6;
-    let a = check_records(ws, 0, n, n, advances, gaps, offsets);
+    let a = check_records(ws, 0, n, 0, n, advances, gaps, offsets);
     if a.number != 0 {
         return a;
     }
@@ -96,12 +98,14 @@ pub fn check(
 }
 
 // Composes a paragraph, of which the records from `start` up to `end` are new: the others are known to be listed, and
-// those before `start` to keep their own rules. Its rows from record `kept` on are filled already. Where it is accepted
-// its place words and line words stand at the front of `places` and `lines`, and the answer is 0 and the line count.
+// those before `start` to keep their own rules. Its rows from record `kept` on are filled already, and those before the
+// unit that record `stop` is in. Where it is accepted its place words and line words stand at the front of `places` and
+// `lines`, and the answer is 0 and the line count.
 pub fn compose(
     ws: &[u32],
     start: usize,
     end: usize,
+    stop: usize,
     kept: usize,
     m: u32,
     x: u32,
@@ -113,10 +117,11 @@ pub fn compose(
 ) -> Answer
     requires { ⌜ Fitting (now ws) m x × ListedBut (now ws) start end ⌝ }
     requires { ⌜ RowsFrom (now ws) start kept (now advances) (now gaps) (now offsets) ⌝ }
+    requires { ⌜ Front (now ws) start stop (now advances) (now gaps) (now offsets) ⌝ }
     ensures { λ r. ⌜ Composed (now (ws .entry)) m x (now (places .entry)) (now (lines .entry))
         (now (places .exit)) (now (lines .exit)) (r .number) (r .place) ⌝ }
 {
-    let a = check_records(ws, start, end, kept, advances, gaps, offsets);
+    let a = check_records(ws, start, end, stop, kept, advances, gaps, offsets);
     if a.number != 0 {
         return a;
     }

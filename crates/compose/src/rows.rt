@@ -151,8 +151,8 @@ fn put_unit(
     offsets: &mut [u32],
 )
     requires { ⌜ UnitToFill (now ws) first end base gap tied (now advances) (now gaps) (now offsets) ⌝ }
-    ensures { λ _. ⌜ RowsFilled (now (ws .entry)) first (now (advances .exit)) (now (gaps .exit))
-        (now (offsets .exit)) ⌝ }
+    ensures { λ _. ⌜ RowsFilled (now (ws .entry)) first (now (advances .entry)) (now (gaps .entry))
+        (now (offsets .entry)) (now (advances .exit)) (now (gaps .exit)) (now (offsets .exit)) ⌝ }
 {
     let r = record_at(ws, first);
     let records = (end - first) as u32;
@@ -202,8 +202,8 @@ fn fill_unit(
 ) -> UnitDone
     requires { ⌜ RowsScanned (now ws) start i (now advances) (now gaps) (now offsets) × (0 < i) ⌝ }
     requires { ⌜ SideFrom (now ws) i (sideOf next) × Laid (now classes) (now spacing) (now words) ⌝ }
-    ensures { λ r. ⌜ UnitFilled (now (ws .entry)) start i (now (advances .exit)) (now (gaps .exit))
-        (now (offsets .exit)) r ⌝ }
+    ensures { λ r. ⌜ UnitFilled (now (ws .entry)) start i (now (advances .entry)) (now (gaps .entry))
+        (now (offsets .entry)) (now (advances .exit)) (now (gaps .exit)) (now (offsets .exit)) r ⌝ }
 {
     let last = i - 1;
     let r = record_at(ws, last);
@@ -265,18 +265,21 @@ fn fill_unit(
     }
 }
 
-// Fills the rows before record `end`, from there on filled already, and says whether answers 8 and 9 apply to no
-// record. Records before `start` are known to keep their own rules.
+// Fills the rows before record `end`, from there on filled already, down to the unit that record `stop` is in, and
+// says whether answers 8 and 9 apply to none of their records. Records before `start` are known to keep their own
+// rules.
 pub(crate) fn fill_rows(
     ws: &[u32],
     start: usize,
+    stop: usize,
     end: usize,
     advances: &mut [u32; 256],
     gaps: &mut [u64; 256],
     offsets: &mut [u32; 256],
 ) -> bool
     requires { ⌜ RowsFrom (now ws) start end (now advances) (now gaps) (now offsets) ⌝ }
-    ensures { λ b. ⌜ Scanned (now (ws .entry)) (now (advances .exit)) (now (gaps .exit)) (now (offsets .exit)) b ⌝ }
+    ensures { λ b. ⌜ Scanned (now (ws .entry)) start stop (now (advances .entry)) (now (gaps .entry))
+        (now (offsets .entry)) (now (advances .exit)) (now (gaps .exit)) (now (offsets .exit)) b ⌝ }
 {
     // laid down once for all records
     let classes = class_table();
@@ -296,7 +299,7 @@ pub(crate) fn fill_rows(
             code: 0,
         }
     };
-    while 0 < i {
+    while stop < i {
         let unit = fill_unit(
             ws,
             i,

@@ -13,12 +13,13 @@ use Rattle.rules.specs.Sheet.{countOf, measureOf, indentOf, recordsOf, limitsOk
 use Rattle.rules.specs.Refusals.{splice, edited}
 use Rattle.rules.specs.Meanings.{All}
 use Rattle.compose.specs.Paragraph.{size, paragraph, IsListed, ListedBut}
-use Rattle.compose.specs.Scan.{RowsFrom}
+use Rattle.compose.specs.Scan.{RowsFrom, Front}
 use Rattle.compose.specs.Composed.{Kept}
 use Rattle.compose.specs.Kept.{KeptFrom}
 use Rattle.compose.proofs.KeptRows.{rows-kept}
+use Rattle.compose.proofs.FrontRows.{front-kept}
 use Rattle.slot.specs.Slot.{spliced, storedWords, Replaceable}
-use Rattle.slot.proofs.Stored.{old-room, stored-paragraph}
+use Rattle.slot.proofs.Stored.{old-room, stored-count, stored-paragraph}
 use Rattle.slot.proofs.Spliced.{spliced-records, length-spliced}
 use Rattle.rules.proofs.Parts.{all-take, all-drop}
 use Rattle.rules.proofs.Splices.{splice-front, splice-after}
@@ -45,10 +46,6 @@ module _ (s : List ℕ) (p d : ℕ) (ins : List ℕ) (len : length s ≡ 2824) (
   list-words : List ℕ
   unfolding old
   list-words = spliced old (6 * p) (6 * (p + d)) ins
-
-  count-new : p + (k + (countOf s - (p + d))) ≡ total / 6
-  unfolding k total
-  count-new = omega arith
 
   length-words : length list-words ≡ total
   unfolding list-words old total k
@@ -108,6 +105,25 @@ module _ (s : List ℕ) (p d : ℕ) (ins : List ℕ) (len : length s ≡ 2824) (
       (omega (arith, length-words))
       (rw (records-words, was) (splice-front rs p d new (omega (arith, r))))
 
+  -- as are those of the records before the place
+  words-front : {ds gs os ds′ gs′ os′ : List ℕ} {r : ℕ} → Kept (storedWords s) ds gs os →
+      KeptFrom (storedWords s) (p + d) (p + k) ds gs os ds′ gs′ os′ r → Front list-words p (p - 1) ds′ gs′ os′
+  unfolding total k
+  words-front q t =
+      let rs = recordsOf s in
+      let new = records ins 0 (length ins / 6) in
+      let was = stored-paragraph s len few in
+      let r : length rs ≡ countOf s = length-records (drop 8 s) 0 (countOf s) in
+      let b = t .moved .below in
+      front-kept q list-words p (omega (arith, stored-count s len few)) (omega (arith, length-words))
+      (rw (records-words, was) (splice-front rs p d new (omega (arith, r))))
+      p
+      (record {
+        advances = λ j h. b .advances j (omega (arith, t .place));
+        gaps = λ j h. b .gaps j (omega (arith, t .place));
+        offsets = λ j h. b .offsets j (omega (arith, t .place));
+      })
+
   -- the list that the program makes: those words, and zeros
   pub record NewList (list : List ℕ) : Type 0 where
     pub replaceable : limitsOk (measureOf s) (indentOf s) ≡ true →
@@ -118,6 +134,9 @@ module _ (s : List ℕ) (p d : ℕ) (ins : List ℕ) (len : length s ≡ 2824) (
     pub rows : {ds gs os ds′ gs′ os′ : List ℕ} {r : ℕ} → Kept (storedWords s) ds gs os →
         KeptFrom (storedWords s) (p + d) (p + length ins / 6) ds gs os ds′ gs′ os′ r →
         RowsFrom (take ((countOf s - d) * 6 + length ins) list) p r ds′ gs′ os′
+    pub front : {ds gs os ds′ gs′ os′ : List ℕ} {r : ℕ} → Kept (storedWords s) ds gs os →
+        KeptFrom (storedWords s) (p + d) (p + length ins / 6) ds gs os ds′ gs′ os′ r →
+        Front (take ((countOf s - d) * 6 + length ins) list) p (p - 1) ds′ gs′ os′
     pub new-few : length (edited s p d ins) ≤ 256
 
   pub new-list : (list : List ℕ) →
@@ -155,5 +174,7 @@ module _ (s : List ℕ) (p d : ℕ) (ins : List ℕ) (len : length s ≡ 2824) (
             (words-listed h);
         rows = λ q t. rw (ap (λ w. take total w) f, take-at list-words (drop total (zeros 1536)) total length-words)
             (words-rows q t);
+        front = λ q t. rw (ap (λ w. take total w) f, take-at list-words (drop total (zeros 1536)) total length-words)
+            (words-front q t);
         new-few = rw (← records-words) (omega (arith, length-records list-words 0 (size list-words), length-words));
       }

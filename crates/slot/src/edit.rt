@@ -3,7 +3,7 @@ ghost use mathlib.Core.Path.{_≡_};
 ghost use lib.ListN.{length, take};
 ghost use Rattle.rules.specs.Refusals.{says, editSays, editSlot};
 ghost use Rattle.compose.specs.Paragraph.{paragraph, ListedBut};
-ghost use Rattle.compose.specs.Scan.{RowsFrom};
+ghost use Rattle.compose.specs.Scan.{RowsFrom, Front};
 ghost use Rattle.compose.specs.Composed.{Kept};
 ghost use Rattle.slot.specs.Redone.{Countable, Counted};
 ghost use Rattle.slot.specs.Slot.{storedWords, StoredLines, replaced, Replaceable};
@@ -15,6 +15,7 @@ use compose::check;
 use compose::compose;
 use compose::keep_rows;
 use rules::limits_ok;
+use rules::over;
 
 // A number and a place, as document 01's table of refusals has them for an edit, and the lines composed anew. A
 // refused edit has composed none.
@@ -81,13 +82,14 @@ pub(crate) fn stored_lines(
 
 // Composes the first `total` words of `list` as the slot's records and, where they are accepted, writes the slot. Of
 // the records those from `start` up to `end` are new; the others were the slot's, and answer 4 has asked them. The rows
-// of the records from `kept` on are filled.
+// of the records from `kept` on are filled, and those before the unit that record `stop` is in.
 fn replace(
     words: &mut [u32],
     list: &[u32],
     total: usize,
     start: usize,
     end: usize,
+    stop: usize,
     kept: usize,
     advances: &mut [u32; 256],
     gaps: &mut [u64; 256],
@@ -95,6 +97,7 @@ fn replace(
 ) -> Answer
     requires { ⌜ Replaceable (now words) (now list) total × ListedBut (take total (now list)) start end ⌝ }
     requires { ⌜ RowsFrom (take total (now list)) start kept (now advances) (now gaps) (now offsets) ⌝ }
+    requires { ⌜ Front (take total (now list)) start stop (now advances) (now gaps) (now offsets) ⌝ }
     ensures { λ r. ⌜ (says (r .number) (r .place), now (words .exit)) ≡
         replaced (now (words .entry)) (paragraph (take total (now (list .entry)))) ⌝ }
 {
@@ -106,6 +109,7 @@ fn replace(
         &list[0..total],
         start,
         end,
+        stop,
         kept,
         m,
         x,
@@ -196,30 +200,27 @@ pub fn edit_slot(words: &mut [u32], place: u32, deleted: u32, inserted: &[u32]) 
         inserted,
     );
     let start = place as usize;
-    let mut new_advances = [0u32; 256];
-    let mut new_gaps = [0u64; 256];
-    let mut new_offsets = [0u32; 256];
     let rows = keep_rows(
         &words[8..end],
         (place + deleted) as usize,
         start + n / 6,
-        &advances,
-        &gaps,
-        &offsets,
-        &mut new_advances,
-        &mut new_gaps,
-        &mut new_offsets,
+        &mut advances,
+        &mut gaps,
+        &mut offsets,
     );
+    // the unit before the place may have been cut, or joined to what comes in
+    let stop = over(place, 1) as usize;
     let a = replace(
         words,
         &list,
         kept + n,
         start,
         start + n / 6,
+        stop,
         rows,
-        &mut new_advances,
-        &mut new_gaps,
-        &mut new_offsets,
+        &mut advances,
+        &mut gaps,
+        &mut offsets,
     );
     counted(a, &starts, stored.place, words, place, deleted, n / 6)
 }

@@ -15,7 +15,7 @@ use Rattle.rules.specs.Groups.{groupFault}
 use Rattle.compose.specs.Paragraph.{size, paragraph}
 use Rattle.compose.specs.Scan.{Clean}
 use Rattle.compose.proofs.Answers.{named, no-8, no-12, no-9, judged-8, judged-12, judged-9, rows-refused}
-use Rattle.compose.proofs.Answers.{rows-accepted, clean-rows}
+use Rattle.compose.proofs.Answers.{rows-accepted, scanned-clean, clean-rows}
 use Rattle.compose.proofs.paragraph.check_records.Statement.{statement}
 use Rattle.compose.proofs.paragraph.check_records.Tie as tie
 
@@ -32,7 +32,7 @@ no-bad c =
     let f = c .before in
     ⊎-elim
     (λ w. no-8 (words f) (w .1 .result) (w .2 .left) (w .1 .ensures))
-    (λ w. f .fill-rows .ensures .clean (not-false _ (w .left)) .sound)
+    (λ w. scanned-clean (f .fill-rows .ensures) (entry f .pre .1 .1) (not-false _ (w .left)) .0 .sound)
     (c .if1 .came)
 
 all-listed : (c : tie.Else3) → notListed 0 (paragraph (words (c .before .before .before))) ≡ none
@@ -45,7 +45,7 @@ no-fault c =
     let f = c .before .before .before .before in
     ⊎-elim
     (λ w. no-9 (words f) (w .1 .result) (w .2 .left) (w .1 .ensures))
-    (λ w. f .fill-rows .ensures .clean (not-false _ (w .left)) .grouped)
+    (λ w. scanned-clean (f .fill-rows .ensures) (entry f .pre .1 .1) (not-false _ (w .left)) .0 .grouped)
     (c .if4 .came)
 
 returns : tie.Need-returns
@@ -81,12 +81,12 @@ returns-4 c =
     let clean : Clean (words f) = record { sound = no-bad j; grouped = no-fault g } in
     rows-accepted (c .says4 .ensures .0)
     (record {
-      few = entry f .pre .1 .scanning .few;
+      few = entry f .pre .1 .0 .scanning .few;
       sound = no-bad j;
       listed = all-listed d;
       grouped = no-fault g;
     })
-    (clean-rows (f .fill-rows .ensures) clean)
+    (clean-rows (f .fill-rows .ensures) (entry f .pre .1 .1) clean)
 
 pub check-records-spec : {M : Type 1} → statement M
 check-records-spec =

@@ -1,20 +1,21 @@
 -- `compose::rows::fill_rows` meets its contract. The loop's invariant is `RowsScanned`, with the side of the unit that
--- starts with record i. Assumes nothing.
+-- starts with record i, and the rows before it as they were. Assumes nothing.
 use native.Mathlib.Omega.{arith}
 use mathlib.Core.Logic.{inl, inr}
 use borrow.Author.Needs.{needs}
 use Rattle.rules.specs.Values.{sideOf}
-use Rattle.compose.specs.Scan.{RowsScanned, SideFrom}
-use Rattle.compose.proofs.RowScan.{unit-lower, scan-ill, scan-clean}
+use Rattle.compose.specs.Scan.{RowsScanned, SideFrom, Below}
+use Rattle.compose.proofs.RowsBelow.{below-refl}
+use Rattle.compose.proofs.RowScan.{unit-lower, below-lower, scan-ill, scan-reached}
 use Rattle.compose.proofs.rows.fill_rows.Statement.{statement}
 use Rattle.compose.proofs.rows.fill_rows.Tie as tie
 
 abbrev Inv-loop : tie.InvT-loop
-Inv-loop ws start end classes spacing words ds₀ gs₀ os₀ i₀ next₀ ds gs os i next =
-    RowsScanned ws start i ds gs os × SideFrom ws i (sideOf next)
+Inv-loop ws start stop end classes spacing words ds₀ gs₀ os₀ i₀ next₀ ds gs os i next =
+    RowsScanned ws start i ds gs os × SideFrom ws i (sideOf next) × Below i ds₀ gs₀ os₀ ds gs os
 
 abbrev μ-loop : tie.MeasureT-loop
-μ-loop ws start end classes spacing words ds₀ gs₀ os₀ i₀ next₀ ds gs os i next = i
+μ-loop ws start stop end classes spacing words ds₀ gs₀ os₀ i₀ next₀ ds gs os i next = i
 
 -- the function's entry, from where the tables are laid down; that place, from where the rows are lent; the loop's
 -- turn; and the unit filled, from where the rows are given back
@@ -49,6 +50,7 @@ loop-holds c =
             | inl w ↦ rw (w .2) (w .1 .ensures)
             | inr w ↦ let z : ⊥ = omega (arith, w .0 .left) in absurd z
           ],
+      below-refl _ _ _ _,
     )
 
 fill-unit-requires : tie.Need-fill-unit-requires Inv-loop μ-loop
@@ -56,7 +58,7 @@ fill-unit-requires c κs =
     let t = turn c in
     let v = t .before .loop .inv in
     let w = laid (t .before .before .before) in (
-      (v .0, t .loop-test .taken),
+      (v .0, omega (arith, t .loop-test .taken)),
       (
         v .1,
         record {
@@ -76,11 +78,13 @@ loop-less c = let n = c .before in unit-lower (filled (n .before .before) .fill-
 loop-again : tie.Need-loop-again Inv-loop μ-loop
 loop-again c =
     let n = c .before in
-    let u = filled (n .before .before) .fill-unit .ensures in
-    (u .scanned (n .if2 .left), λ h. u .side-is (n .if2 .left))
+    let f = filled (n .before .before) in
+    let u = f .fill-unit .ensures in
+    let b = turn (f .before) .before .loop .inv .2 in
+    (u .scanned (n .if2 .left), λ h. u .side-is (n .if2 .left), below-lower u b (n .if2 .left))
 
 returns-2 : tie.Need-returns-2 Inv-loop μ-loop
-returns-2 c = scan-clean (c .before .loop .inv .0) (omega arith)
+returns-2 c = let v = c .before .loop .inv in scan-reached (v .0) (v .2) (omega arith)
 
 pub fill-rows-spec : {M : Type 1} → statement M
 fill-rows-spec =

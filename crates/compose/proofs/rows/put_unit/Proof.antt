@@ -11,7 +11,7 @@ use Rattle.compose.proofs.rows.put_unit.Tie as tie
 
 abbrev Inv-loop : tie.InvT-loop
 Inv-loop ws first end base gap tied advances₀ gaps₀ offsets₀ r records solid₀ k₀ advances gaps offsets solid k =
-    UnitFilling ws first end advances gaps offsets solid k
+    UnitFilling ws first end advances₀ gaps₀ offsets₀ advances gaps offsets solid k
 
 abbrev μ-loop : tie.MeasureT-loop
 μ-loop ws first end base gap tied advances₀ gaps₀ offsets₀ r records solid₀ k₀ advances gaps offsets solid k =

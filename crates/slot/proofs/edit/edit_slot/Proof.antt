@@ -48,20 +48,20 @@ five c = seven c .before .before
 abbrev four : tie.After-splice → tie.Else1
 four c = five c .before .before .before
 
-abbrev old-rows-lent : tie.After-new-offsets → tie.After-keep-rows-arg
-old-rows-lent c = c .before .before .before .before .before .before
+abbrev rows-lent : tie.After-offsets2 → tie.After-keep-rows-arg
+rows-lent c = c .before .before .before
 
-abbrev keeping : tie.After-new-offsets → tie.After-splice
-keeping c = old-rows-lent c .before .before .before
+abbrev keeping : tie.After-offsets2 → tie.After-splice
+keeping c = rows-lent c .before .before .before
 
-abbrev new-rows-kept : tie.After-new-offsets3 → tie.After-new-offsets2
-new-rows-kept c = c .before .before .before .before .before
+abbrev moved : tie.After-over → tie.After-keep-rows
+moved c = c .before
 
-abbrev kept : tie.After-new-offsets3 → tie.After-keep-rows
-kept c = new-rows-kept c .before .before .before
+abbrev stopping : tie.After-offsets3 → tie.After-over
+stopping c = c .before .before .before .before .before
 
 abbrev listed : tie.After-replace → tie.After-splice
-listed c = keeping (kept (c .before) .before)
+listed c = keeping (moved (stopping (c .before)) .before)
 
 -- past answer 4 the slot is sound
 is-sound-at : (c : tie.Else1) → sound (now (past-4 c .args .words)) ≡ true
@@ -170,14 +170,11 @@ keep-rows-requires c κs =
       few = omega (arith, n, few-at (four d));
       within = omega (arith, n, within-at (five d));
       room = omega (arith, n, within-at (five d), seven d .if5 .left);
-      advance-room = search needs;
-      gap-room = search needs;
-      offset-room = search needs;
     }
 
 add-replace : tie.Need-add-replace
 add-replace c =
-    let k = c .before .before .before .before .before in
+    let k = moved (c .before .before) in
     omega (arith, seven (keeping (k .before)) .if5 .left)
 
 -- it may replace the slot's own
@@ -190,16 +187,20 @@ replaceable-at c =
 
 replace-requires : tie.Need-replace-requires
 replace-requires c κs =
-    let k = kept c in
+    let o = stopping c in
+    let k = moved o in
     let d = keeping (k .before) in
     let n = new-list-at d in (
       (replaceable-at d, n .listed (sound-listed (now (spliced d .args .words)) (is-sound-at (four d)))),
-      n .rows (rows-at (four d)) (k .keep-rows .ensures),
+      (
+        n .rows (rows-at (four d)) (k .keep-rows .ensures),
+        rw (o .over .ensures) (n .front (rows-at (four d)) (k .keep-rows .ensures)),
+      ),
     )
 
 add-replace-2 : tie.Need-add-replace-2
 add-replace-2 c =
-    let k = c .before .before .before .before .before in
+    let k = moved (c .before .before) in
     let d = keeping (k .before) in
     omega (arith, few-at (four d), within-at (five d), seven d .if5 .left)
 
@@ -283,10 +284,9 @@ edit-slot-spec =
     add-keep-rows
     (λ c. search needs)
     (λ c. search needs)
-    (λ c. search needs)
-    (λ c. search needs)
-    (λ c. search needs)
     keep-rows-requires
+    (λ c κs. search needs)
+    (λ c. search needs)
     (λ c. search needs)
     add-replace
     add-replace-2

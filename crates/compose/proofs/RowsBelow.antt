@@ -1,0 +1,30 @@
+-- Tables that have the same rows below a row: stores at or after it, and one change after the other. Assumes nothing.
+use mathlib.Core.Path.{refl, _∙_}
+use Prim.Native.Nat.{ℕ, _≤_}
+use native.Mathlib.Omega.{arith}
+use mathlib.Core.List.{List}
+use lib.ListN.{set}
+use lib.Seq.{getD-set-other}
+use Rattle.compose.specs.Scan.{Below}
+
+pub below-refl : (n : ℕ) (ds gs os : List ℕ) → Below n ds gs os ds gs os
+below-refl n ds gs os = record { advances = λ k h. refl; gaps = λ k h. refl; offsets = λ k h. refl }
+
+pub below-trans : {n k : ℕ} {ds₀ gs₀ os₀ ds₁ gs₁ os₁ ds₂ gs₂ os₂ : List ℕ} → Below n ds₀ gs₀ os₀ ds₁ gs₁ os₁ →
+    Below k ds₁ gs₁ os₁ ds₂ gs₂ os₂ → k ≤ n → Below k ds₀ gs₀ os₀ ds₂ gs₂ os₂
+below-trans a b l =
+    record {
+      advances = λ m h. b .advances m h ∙ a .advances m (omega arith);
+      gaps = λ m h. b .gaps m h ∙ a .gaps m (omega arith);
+      offsets = λ m h. b .offsets m h ∙ a .offsets m (omega arith);
+    }
+
+-- row j is stored
+pub below-set : (a g o : ℕ) {n j : ℕ} {ds₀ gs₀ os₀ ds gs os : List ℕ} → Below n ds₀ gs₀ os₀ ds gs os → n ≤ j →
+    Below n ds₀ gs₀ os₀ (set ds j a) (set gs j g) (set os j o)
+below-set a g o {j = j} {ds = ds} {gs = gs} {os = os} b l =
+    record {
+      advances = λ k h. getD-set-other ds j k a 0 (λ e. omega arith) ∙ b .advances k h;
+      gaps = λ k h. getD-set-other gs j k g 0 (λ e. omega arith) ∙ b .gaps k h;
+      offsets = λ k h. getD-set-other os j k o 0 (λ e. omega arith) ∙ b .offsets k h;
+    }
