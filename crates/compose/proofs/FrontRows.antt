@@ -1,25 +1,24 @@
 -- The rows before an edit are those of the new list: a row hangs on its unit and on the side of the next one. Assumes
 -- nothing.
 use mathlib.Core.Path.{_≡_, refl, ap, sym, subst, _∙_}
-use Prim.Native.Nat.{ℕ, zero, suc, _+_, _-_, _≤_, _<_}
+use Prim.Native.Nat.{ℕ, suc, _+_, _-_, _≤_, _<_}
 use native.Mathlib.Omega.{arith}
 use native.Mathlib.Nat.{add-zero, zero-add}
-use mathlib.Core.Bool.{false, _&&_}
+use mathlib.Core.Bool.{false}
 use mathlib.Core.List.{List, [], _∷_, _++_}
 use mathlib.Core.Logic.{inl, inr}
 use mathlib.Core.Option.{none, some}
-use lib.Dec.{eqb, ltb}
 use lib.ListN.{length, take, drop, getD, length-append}
-use Rattle.rules.specs.Records.{Rec, recAt, records, recOk, badRecord}
+use Rattle.rules.specs.Records.{recAt, records, recOk, badRecord}
 use Rattle.rules.specs.Sides.{sideBy, forbidden}
-use Rattle.rules.specs.Groups.{TextUnit, sameGroup, badGroup, groupFault, units, side, advance, baseOffsets}
+use Rattle.rules.specs.Groups.{TextUnit, sameGroup, groupFault, units, side, advance, baseOffsets}
 use Rattle.rules.specs.Gaps.{gapOf}
-use Rattle.rules.specs.Meanings.{All, all-none, all-more, lastOf}
-use Rattle.rules.proofs.Facts.{tested, ordered, some-none}
+use Rattle.rules.specs.Meanings.{All, lastOf}
+use Rattle.rules.proofs.Facts.{ordered}
 use Rattle.rules.proofs.FirstFailing.{all-pass}
 use Rattle.rules.proofs.GroupedRecords.{all-fine}
 use Rattle.rules.proofs.Lengths.{counts-units}
-use Rattle.rules.proofs.Parts.{all-take}
+use Rattle.rules.proofs.Parts.{all-take, all-append}
 use Rattle.rules.proofs.Words.{length-records, take-records, drop-records}
 use Rattle.compose.specs.Paragraph.{size, paragraph, from, headOr, unitAt, nextAt}
 use Rattle.compose.specs.Rows.{Row, inner, outer, unitRows, RowIs, Held, held-more, rowsOf, Rowed}
@@ -28,7 +27,8 @@ use Rattle.compose.specs.Composed.{Kept}
 use Rattle.compose.proofs.Walk.{unit-step}
 use Rattle.compose.proofs.HeldRows.{rowsBefore, rows-split, length-rowsBefore, length-rowsOf}
 use Rattle.compose.proofs.RowScan.{front-none}
-use Rattle.compose.proofs.KeptRows.{fault-less, last-record, records-apart, from-apart}
+use Rattle.compose.proofs.GroupParts.{fault-take, fault-join}
+use Rattle.compose.proofs.KeptRows.{last-record, records-apart, from-apart}
 
 -- rows before a unit ----------------------------------------------------------------------------------------------
 
@@ -77,53 +77,6 @@ held-front {ds₀} {gs₀} {os₀} {ds} {gs} {os} i (p ∷ ps) qs₀ qs (held-mo
     λ e. let m : length (ps ++ qs) ≡ 0 = ap (λ rs. length rs) e in omega (arith, length-append ps qs) in
     held-more v (λ e. absurd (more e))
     (held-front (i + 1) ps qs₀ qs h (rw (← n) at b) (rw (← n) at t) l)
-
--- groups ---------------------------------------------------------------------------------------------------------
-
--- the first records of a list keep the rules of groups
-bad-take : (i n k : ℕ) (p : Rec) (rs : List Rec) → badGroup i n p rs ≡ none → badGroup i n p (take k rs) ≡ none
-unfolding badGroup
-bad-take i n zero p rs h = refl
-bad-take i n (suc k) p [] h = refl
-bad-take i n (suc k) p (r ∷ rs) h =
-    elim (tested (sameGroup p r)) [
-      | inr e ↦ rw (badGroup, e) (bad-take (suc i) 1 k r rs (rw (badGroup, e) at h))
-      | inl e ↦
-          elim (tested (eqb (p .size) (r .size) && eqb (p .ruby) (r .ruby) && ltb n 16)) [
-            | inl d ↦ rw (badGroup, e, d) (bad-take (suc i) (suc n) k r rs (rw (badGroup, e, d) at h))
-            | inr d ↦ let f : some i ≡ none = rw (badGroup, e, d) at h in absurd (some-none f)
-          ]
-    ]
-
-fault-take : (k : ℕ) (rs : List Rec) → groupFault rs ≡ none → groupFault (take k rs) ≡ none
-unfolding groupFault
-fault-take zero rs h = refl
-fault-take (suc k) [] h = refl
-fault-take (suc k) (r ∷ rs) h = bad-take 1 1 k r rs h
-
--- two lists that meet between two groups
-bad-join : (i n : ℕ) (p : Rec) (rs : List Rec) (y : Rec) (ys : List Rec) → badGroup i n p rs ≡ none →
-    sameGroup (lastOf p rs) y ≡ false → badGroup 1 1 y ys ≡ none → badGroup i n p (rs ++ y ∷ ys) ≡ none
-unfolding badGroup
-bad-join i n p [] y ys h e g = rw (badGroup, e) (fault-less 1 (suc i) 1 1 y ys (omega arith) g)
-bad-join i n p (r ∷ rs) y ys h e g =
-    elim (tested (sameGroup p r)) [
-      | inr f ↦ rw (badGroup, f) (bad-join (suc i) 1 r rs y ys (rw (badGroup, f) at h) e g)
-      | inl f ↦
-          elim (tested (eqb (p .size) (r .size) && eqb (p .ruby) (r .ruby) && ltb n 16)) [
-            | inl d ↦ rw (badGroup, f, d) (bad-join (suc i) (suc n) r rs y ys (rw (badGroup, f, d) at h) e g)
-            | inr d ↦ let z : some i ≡ none = rw (badGroup, f, d) at h in absurd (some-none z)
-          ]
-    ]
-
-fault-join : (x : Rec) (xs : List Rec) (y : Rec) (ys : List Rec) → groupFault (x ∷ xs) ≡ none →
-    groupFault (y ∷ ys) ≡ none → sameGroup (lastOf x xs) y ≡ false → groupFault (x ∷ xs ++ y ∷ ys) ≡ none
-unfolding groupFault
-fault-join x xs y ys h g e = bad-join 1 1 x xs y ys h e g
-
-all-append : {P : Rec → Type 0} {ps qs : List Rec} → All P ps → All P qs → All P (ps ++ qs)
-all-append all-none b = b
-all-append (all-more h a) b = all-more h (all-append a b)
 
 -- the new list's words vs have the old list's first p records -----------------------------
 
@@ -192,7 +145,8 @@ module _ {ws ds gs os : List ℕ} (k : Kept ws ds gs os) (vs : List ℕ) (p : �
     all-rows =
         let n = length-before in
         let before : Held ds gs os 0 (rowsBefore us (from ws i) ++ rowsOf (from ws i)) =
-        subst (λ rs. Held ds gs os 0 rs) (ap (λ ts. rowsOf ts) (sym old-units) ∙ rows-split us (from ws i)) (k .rows) in
+        subst (λ rs. Held ds gs os 0 rs) (ap (λ ts. rowsOf ts) (sym old-units) ∙ rows-split us (from ws i))
+        (k .rows) in
         let some : 0 < length (rowsOf (from vs i)) =
         omega (
           arith,
@@ -205,7 +159,8 @@ module _ {ws ds gs os : List ℕ} (k : Kept ws ds gs os) (vs : List ℕ) (p : �
         held-front 0 (rowsBefore us (from ws i)) (rowsOf (from ws i)) (rowsOf (from vs i)) before (rw n b)
         (rw n (r .rows)) some in
         subst (λ rs. Held ds′ gs′ os′ 0 rs)
-        ((λ t. sym rows-same t ++ rowsOf (from vs i)) ∙ sym (rows-split us (from vs i)) ∙ ap (λ ts. rowsOf ts) new-units)
+        ((λ t. sym rows-same t ++ rowsOf (from vs i)) ∙ sym (rows-split us (from vs i))
+        ∙ ap (λ ts. rowsOf ts) new-units)
         joined
 
     split : records vs 0 i ++ records vs i (size vs - i) ≡ paragraph vs

@@ -15,20 +15,7 @@ use Rattle.rules.specs.Groups.{sameGroup, badGroup, groupFault}
 use Rattle.rules.proofs.Facts.{tested, some-none, nil-cons}
 use Rattle.rules.proofs.Limits.{and-left}
 use Rattle.compose.proofs.Faults.{alike}
-
--- that no record is at fault does not hang on how they are counted
-group-index : (i j n : ℕ) (p : Rec) (rs : List Rec) → badGroup i n p rs ≡ none → badGroup j n p rs ≡ none
-unfolding badGroup
-group-index i j n p [] h = refl
-group-index i j n p (r ∷ rs) h =
-    elim (tested (sameGroup p r)) [
-      | inr e ↦ rw (badGroup, e) (group-index (suc i) (suc j) 1 r rs (rw (e, badGroup) at h))
-      | inl e ↦
-          elim (tested (alike p r && ltb n 16)) [
-            | inl d ↦ rw (badGroup, e, d) (group-index (suc i) (suc j) (suc n) r rs (rw (e, d, badGroup) at h))
-            | inr d ↦ let f : some i ≡ none = rw (e, d, badGroup) at h in absurd (some-none f)
-          ]
-    ]
+use Rattle.compose.proofs.GroupParts.{fault-less}
 
 -- a record p, with which a unit of c records starts, and those after it: with up to 16 - c of its group before it the
 -- rules of groups are kept
@@ -41,7 +28,7 @@ keeps-last p i n h = refl
 
 pub keeps-apart : (p r : Rec) (rs : List Rec) → sameGroup p r ≡ false → groupFault (r ∷ rs) ≡ none → Keeps 1 p (r ∷ rs)
 unfolding Keeps badGroup groupFault
-keeps-apart p r rs e g i n h = rw (badGroup, e) (group-index 1 (suc i) 1 r rs g)
+keeps-apart p r rs e g i n h = rw (badGroup, e) (fault-less 1 (suc i) 1 1 r rs (omega arith) g)
 
 pub keeps-more : (c : ℕ) (p r : Rec) (rs : List Rec) → sameGroup p r ≡ true → alike p r ≡ true → 1 ≤ c → Keeps c r rs →
     Keeps (suc c) p (r ∷ rs)

@@ -14,7 +14,7 @@ use Rattle.rules.proofs.Facts.{ordered, true-false}
 use Rattle.compose.specs.Paragraph.{size, from, unitAt}
 use Rattle.compose.specs.Rows.{outer, bit}
 use Rattle.compose.specs.Scan.{AfterUnit, SideFrom}
-use Rattle.compose.specs.declared.rows.Joint.{Joint}
+use Rattle.compose.specs.declared.units.Joint.{Joint}
 use Rattle.compose.proofs.Walk.{from-end, unit-step}
 
 module _ {l r : Side} {more : Bool} where

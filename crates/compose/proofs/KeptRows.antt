@@ -1,23 +1,19 @@
--- The rows that an edit keeps are those of the new list: what stands from a unit's first record on does not hang on what
--- stands before. Assumes nothing.
-use mathlib.Core.Path.{_≡_, refl, ap, sym, subst, _∙_}
+-- The rows after an edit are those of the new list: what stands from a unit's first record on does not hang on what
+-- stands before it. Assumes nothing.
+use mathlib.Core.Path.{_≡_, ap, sym, subst, _∙_}
 use Prim.Native.Nat.{ℕ, zero, suc, _+_, _-_, _≤_, _<_}
 use native.Mathlib.Omega.{arith}
 use native.Mathlib.Nat.{add-zero, sub-zero}
-use mathlib.Core.Bool.{true, false, _&&_}
+use mathlib.Core.Bool.{false}
 use mathlib.Core.List.{List, [], _∷_, _++_, append-nil}
 use mathlib.Core.Logic.{inl, inr}
-use mathlib.Core.Option.{Option, none, some}
-use lib.Dec.{eqb, ltb}
 use lib.ListN.{length, take, drop, getD, take-append-drop, length-drop}
-use borrow.Author.Tests.{ltb-true, lt-ltb}
 use Rattle.rules.specs.Basics.{cut}
-use Rattle.rules.specs.Records.{Rec, recAt, records}
-use Rattle.rules.specs.Groups.{sameGroup, badGroup, groupFault, units, counts}
+use Rattle.rules.specs.Records.{recAt, records}
+use Rattle.rules.specs.Groups.{sameGroup, units, counts}
 use Rattle.rules.specs.Meanings.{All, lastOf}
-use Rattle.rules.proofs.Facts.{tested, ordered, some-none}
+use Rattle.rules.proofs.Facts.{ordered}
 use Rattle.rules.proofs.Cuts.{cut-split}
-use Rattle.rules.proofs.Limits.{and-left, and-right}
 use Rattle.rules.proofs.Lengths.{counts-units}
 use Rattle.rules.proofs.Parts.{all-take, all-drop}
 use Rattle.rules.proofs.GroupedRecords.{all-fine}
@@ -27,51 +23,9 @@ use Rattle.compose.specs.Rows.{Row, RowIs, Held, held-none, held-more, r
 use Rattle.compose.specs.Scan.{Fine, RowsFrom}
 use Rattle.compose.specs.Composed.{Kept}
 use Rattle.compose.specs.Kept.{UnitFrom, RowsMoved, KeptFrom}
+use Rattle.compose.proofs.GroupParts.{no-group, fault-drop}
 use Rattle.compose.proofs.Walk.{records-from, records-left}
 use Rattle.compose.proofs.HeldRows.{held-after, length-rowsOf}
-
--- groups ---------------------------------------------------------------------------------------------------------
-
--- a record of no group is not joined to the one before it
-no-group : (p r : Rec) → r .group ≡ 0 → sameGroup p r ≡ false
-no-group p r z = rw z
-
--- a record that is an earlier one of its group leaves more room
-pub fault-less : (i j n k : ℕ) (p : Rec) (rs : List Rec) → k ≤ n → badGroup i n p rs ≡ none → badGroup j k p rs ≡ none
-unfolding badGroup
-fault-less i j n k p [] l h = refl
-fault-less i j n k p (r ∷ rs) l h =
-    let same = eqb (p .size) (r .size) && eqb (p .ruby) (r .ruby) in
-    elim (tested (sameGroup p r)) [
-      | inr e ↦ rw (badGroup, e) (fault-less (suc i) (suc j) 1 1 r rs (omega arith) (rw (badGroup, e) at h))
-      | inl e ↦
-          elim (tested (same && ltb n 16)) [
-            | inl d ↦
-                let b : ltb k 16 ≡ true = lt-ltb k 16 (omega (arith, ltb-true n 16 (and-right same (ltb n 16) d))) in
-                rw (badGroup, e, and-left same (ltb n 16) d, b)
-                (fault-less (suc i) (suc j) (suc n) (suc k) r rs (omega arith) (rw (badGroup, e, d) at h))
-            | inr d ↦ let f : some i ≡ none = rw (badGroup, e, d) at h in absurd (some-none f)
-          ]
-    ]
-
--- without its first record a list keeps the rules of groups
-fault-tail : (r : Rec) (rs : List Rec) → groupFault (r ∷ rs) ≡ none → groupFault rs ≡ none
-unfolding groupFault badGroup
-fault-tail p [] h = refl
-fault-tail p (r ∷ rs) h =
-    elim (tested (sameGroup p r)) [
-      | inr e ↦ fault-less 2 1 1 1 r rs (omega arith) (rw (badGroup, e) at h)
-      | inl e ↦
-          elim (tested (eqb (p .size) (r .size) && eqb (p .ruby) (r .ruby) && ltb 1 16)) [
-            | inl d ↦ fault-less 2 1 2 1 r rs (omega arith) (rw (badGroup, e, d) at h)
-            | inr d ↦ let f : _≡_ {A = Option ℕ} (some 1) none = rw (badGroup, e, d) at h in absurd (some-none f)
-          ]
-    ]
-
-fault-drop : (k : ℕ) (rs : List Rec) → groupFault rs ≡ none → groupFault (drop k rs) ≡ none
-fault-drop zero rs h = h
-fault-drop (suc k) [] h = h
-fault-drop (suc k) (r ∷ rs) h = fault-drop k rs (fault-tail r rs h)
 
 -- rows -----------------------------------------------------------------------------------------------------------
 
@@ -199,8 +153,8 @@ module _ {ws ds gs os : List ℕ} {d a : ℕ} (k : Kept ws ds gs os) (u : UnitFr
             (λ i l. m .offsets i (omega (arith, n))));
       }
 
--- the same, by what the two paragraphs have in common: the records before `start`, and those from record d on, which are
--- the new one's from record `to` on
+-- the same, by what the two paragraphs have in common: the records before `start`, and those from record d on, which
+-- are the new one's from record `to` on
 module _ {ws ds gs os : List ℕ} {d to r : ℕ} {ds′ gs′ os′ : List ℕ} (k : Kept ws ds gs os)
     (q : KeptFrom ws d to ds gs os ds′ gs′ os′ r) (vs : List ℕ) (start : ℕ)
     (after : (i : ℕ) → drop (to + i) (paragraph vs) ≡ drop (d + i) (paragraph ws)) where

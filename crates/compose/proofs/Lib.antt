@@ -3,8 +3,9 @@
 pub mod Walk
 pub mod Faults
 pub mod Answers
--- the scan that fills the rows: `unit_before`, `after_unit`, `put_unit`, `fill_unit` and `fill_rows`
+-- the scan that fills the rows: `unit_before` and `after_unit`, `put_unit`, `fill_unit` and `fill_rows`
 pub mod Limits
+pub mod GroupParts
 pub mod GroupScan
 pub mod UnitWalk
 pub mod Joints

@@ -88,7 +88,8 @@ module _ (p : Run TextUnit) (us : List TextUnit) (h : TiedRun bound p) where
       (record { joins-up = append-nil (whole p); tied = all-more h all-none; apart = apart-one }))
 
 -- where a line may end after it, it is a run
-pub run-alone : (p : Run TextUnit) (us : List TextUnit) → TiedRun bound p → EndsWell p us → runs (whole p ++ us) ≡ p ∷ runs us
+pub run-alone : (p : Run TextUnit) (us : List TextUnit) → TiedRun bound p → EndsWell p us →
+    runs (whole p ++ us) ≡ p ∷ runs us
 unfolding runs cut
 run-alone p us h at-end = ap (cut bound) (append-nil (whole p)) ∙ tied-run p [] h
 run-alone p us h (at-break {v = v} {vs = vs} e) =

@@ -178,7 +178,8 @@ module _ {ws ds gs os : List ℕ} {m x i : ℕ} {line : LineSums} {solid total k
               let z : here .after ≡ [] =
               none-after (here .after)
               (omega (arith, ap (λ rs. length rs) (here .is), q .number, p .few)) in
-              rw (here .last z, plus-nothing (unpacked total)) (at-most-255 (q .limit (omega (arith, p .few))) (omega (arith, p .few)))
+              rw (here .last z, plus-nothing (unpacked total))
+              (at-most-255 (q .limit (omega (arith, p .few))) (omega (arith, p .few)))
         ]
 
     pub turn-sums : AtMost 255 (plus (unpacked total) (unpacked (getD gs k 0)))
@@ -204,7 +205,8 @@ module _ {ws ds gs os : List ℕ} {m x i : ℕ} {line : LineSums} {solid total k
           Search ws ds gs os m x i l (solid + getD ds k 0 / 2) t (k + 1)
       unfolding searched
       onto {t} l e f g =
-          let s : unpacked t ≡ plus (unpacked total) (here .row .gap) = e ∙ ap (plus (unpacked total)) (here .words .gap) in
+          let s : unpacked t ≡ plus (unpacked total) (here .row .gap) =
+          e ∙ ap (plus (unpacked total)) (here .words .gap) in
           record {
             left = here .after;
             held = here .held;

@@ -56,7 +56,8 @@ module _ {ws ds gs os : List ℕ} {m x : ℕ} {starts : List ℕ} where
         let n = left-stop (d .left) e in
         record { place = f ∙ rw n; broken = λ z. absurd (some-none (sym n ∙ z)) }
 
-    pub due-more : {j : ℕ} → i < size ws → LineTaken ws m start i j → Due ws ds gs os m x (set starts lines i) (lines + 1) j 0
+    pub due-more : {j : ℕ} → i < size ws → LineTaken ws m start i j →
+        Due ws ds gs os m x (set starts lines i) (lines + 1) j 0
     unfolding firsts
     due-more {j} h t =
         record {

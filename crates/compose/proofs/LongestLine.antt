@@ -20,8 +20,8 @@ use Rattle.rules.proofs.Facts.{tested, ordered}
 use Rattle.rules.proofs.Cuts.{last-append}
 use Rattle.rules.proofs.NoBreaking.{counts-append}
 use Rattle.compose.specs.Rows.{outer}
-use Rattle.compose.proofs.LineRuns.{width-sums, advances-append, totals-append, run-alone, narrower, tied-longer}
-use Rattle.compose.proofs.LineRuns.{first-run, run-wider, line-wider}
+use Rattle.compose.proofs.LineRuns.{width-sums, advances-append, totals-append, run-alone, narrower}
+use Rattle.compose.proofs.LineRuns.{tied-longer, first-run, run-wider, line-wider}
 
 -- the search ------------------------------------------------------------------------------------------------------
 
@@ -100,7 +100,8 @@ module _ (m x i : ℕ) where
         omega (arith, counts-append (whole q) (v ∷ [])) in
         let d : x + unitAdvances (whole q) + advance v ≡ x + unitAdvances (whole (longer q v)) =
         omega (arith, advances-append (whole q) (v ∷ [])) in
-        let g : plus (gapsOf q) (gap (lastIn q) v) ≡ gapsOf (longer q v) = sym (totals-append (q .first) (q .rest) v) in
+        let g : plus (gapsOf q) (gap (lastIn q) v) ≡ gapsOf (longer q v) =
+        sym (totals-append (q .first) (q .rest) v) in
         let l : v ≡ lastIn (longer q v) = sym (last-append (q .first) (q .rest) v []) in
         rw (byUnits, wide-is, le-leb _ _ h)
         (λ t. byUnits m us (n t) (d t) (plus (g t) (outer (l t) us 0 .gap))
@@ -121,9 +122,9 @@ module _ (m x i : ℕ) where
   abbrev Ended : List TextUnit → Type 0
   Ended us = (l : Run TextUnit) → x + width l ≤ m → EndsWell l us → Past l us (after m x i l us (bestOf i x l))
 
-  -- A tied run p is gone through, after what is remembered as b: after a line or after nothing. `on` puts p after it, and
-  -- `Given` is what the search is to give from there on: b where p is too wide, and else, where p is a run, what it gives
-  -- past p.
+  -- A tied run p is gone through, after what is remembered as b: after a line or after nothing. `on` puts p after it,
+  -- and `Given` is what the search is to give from there on: b where p is too wide, and else, where p is a run, what it
+  -- gives past p.
   module _ (on : Run TextUnit → Run TextUnit) (b : Best) (Given : List TextUnit → Best → Type 0)
       (last-on : (p : Run TextUnit) → lastIn (on p) ≡ lastIn p)
       (longer-on : (p : Run TextUnit) (v : TextUnit) → on (longer p v) ≡ longer (on p) v)
@@ -276,11 +277,11 @@ module _ (m x i : ℕ) where
 
   begun : (us : List TextUnit) → Begun us
   begun [] =
-      open-none (λ p. p) (noLine i x) Found (λ p. refl) (λ p v. refl) (λ p us h o. inl (refl, none-fits p us h o)) begins
-      ended-none
+      open-none (λ p. p) (noLine i x) Found (λ p. refl) (λ p v. refl) (λ p us h o. inl (refl, none-fits p us h o))
+      begins ended-none
   begun (v ∷ us) =
-      open-more (λ p. p) (noLine i x) Found (λ p. refl) (λ p v. refl) (λ p us h o. inl (refl, none-fits p us h o)) begins
-      v us (both (v ∷ us) .0) (begun us)
+      open-more (λ p. p) (noLine i x) Found (λ p. refl) (λ p v. refl) (λ p us h o. inl (refl, none-fits p us h o))
+      begins v us (both (v ∷ us) .0) (begun us)
 
   pub found : (u : TextUnit) (us : List TextUnit) → Found (u ∷ us) (byUnits m (u ∷ us) i x nothing (noLine i x))
   unfolding byUnits smallest unitAdvances totals counts

@@ -22,9 +22,9 @@ use Rattle.compose.specs.Scan.{Fine, Clean, Scanning, UnitBefore, AfterU
 use Rattle.compose.specs.Scan.{RowsFilled, UnitFilled, RowsFrom, Below, Scanned, Front}
 use Rattle.compose.specs.Rows.{rowsOf, held-none}
 use Rattle.compose.specs.Paragraph.{size}
-use Rattle.compose.specs.declared.rows.UnitSums.{UnitSums}
+use Rattle.compose.specs.declared.units.UnitSums.{UnitSums}
 use Rattle.compose.specs.declared.rows.UnitDone.{UnitDone}
-use Rattle.compose.specs.declared.rows.Joint.{Joint}
+use Rattle.compose.specs.declared.units.Joint.{Joint}
 use Rattle.compose.proofs.Walk.{from-end}
 use Rattle.compose.proofs.Faults.{records-end}
 use Rattle.compose.proofs.Limits.{side-limits}

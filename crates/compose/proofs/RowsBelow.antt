@@ -10,7 +10,8 @@ use Rattle.compose.specs.Scan.{Below}
 pub below-refl : (n : ℕ) (ds gs os : List ℕ) → Below n ds gs os ds gs os
 below-refl n ds gs os = record { advances = λ k h. refl; gaps = λ k h. refl; offsets = λ k h. refl }
 
-pub below-trans : {n k : ℕ} {ds₀ gs₀ os₀ ds₁ gs₁ os₁ ds₂ gs₂ os₂ : List ℕ} → Below n ds₀ gs₀ os₀ ds₁ gs₁ os₁ →
+pub below-trans : {n k : ℕ} {ds₀ gs₀ os₀ ds₁ gs₁ os₁ ds₂ gs₂ os₂ : List ℕ} →
+    Below n ds₀ gs₀ os₀ ds₁ gs₁ os₁ →
     Below k ds₁ gs₁ os₁ ds₂ gs₂ os₂ → k ≤ n → Below k ds₀ gs₀ os₀ ds₂ gs₂ os₂
 below-trans a b l =
     record {

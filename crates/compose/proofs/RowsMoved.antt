@@ -156,7 +156,8 @@ module _ {ds gs os ds′ gs′ os′ : List ℕ} {start to : ℕ} where
       }
 
   pub moving-down : {k count : ℕ} {ds″ gs″ os″ : List ℕ} → Moving ds gs os start to k count ds′ gs′ os′ →
-      start ≤ to → 0 < k → k ≤ count → to + count ≤ 256 → ds″ ≡ set ds′ (to + (k - 1)) (getD ds′ (start + (k - 1)) 0) →
+      start ≤ to → 0 < k → k ≤ count → to + count ≤ 256 →
+      ds″ ≡ set ds′ (to + (k - 1)) (getD ds′ (start + (k - 1)) 0) →
       gs″ ≡ set gs′ (to + (k - 1)) (getD gs′ (start + (k - 1)) 0) →
       os″ ≡ set os′ (to + (k - 1)) (getD os′ (start + (k - 1)) 0) → Moving ds gs os start to (k - 1) count ds″ gs″ os″
   moving-down m o z l h a b c =

@@ -202,7 +202,8 @@ module _ {ws : List ℕ} {first end base gap tied : ℕ} {ds₀ gs₀ os₀ : Li
         fill-more {q = q} h a b c w =
             let l = unit-limits in
             let i = f .inside in
-            let x = record-limits ws first (t .unit .fine) (first + k) (omega arith) (omega (arith, t .unit .within)) in
+            let x =
+            record-limits ws first (t .unit .fine) (first + k) (omega arith) (omega (arith, t .unit .within)) in
             let m : first + k + 1 ≡ first + (k + 1) = omega arith in
             rw (a, b, c, w)
             (record {

@@ -19,6 +19,7 @@ use Rattle.compose.specs.Paragraph.{size, paragraph, from, unitAt, nextA
 use Rattle.compose.specs.Scan.{Fine, Clean, Scanning, UnitBefore}
 use Rattle.compose.proofs.Walk.{records-from, records-left, unit-step, unit-last, unit-more}
 use Rattle.compose.proofs.Faults.{alike, records-end}
+use Rattle.compose.proofs.GroupParts.{no-group}
 use Rattle.compose.proofs.GroupScan.{Keeps, keeps-last, keeps-apart, keeps-more, keeps-all, group-alike}
 
 -- where answers 8 and 9 do not apply ------------------------------------------------------------------------------
@@ -218,13 +219,10 @@ module _ {ws : List ℕ} {start i first base : ℕ} (s : Scanning ws start i) (w
   unit-first e = unit-found (λ h. let z : ⊥ = omega arith in absurd z)
 
 -- a record of no group is a unit
-alone-apart : (p r : Rec) → r .group ≡ 0 → sameGroup p r ≡ false
-alone-apart p r g = rw g
-
-pub unit-alone : {ws : List ℕ} {start i : ℕ} → Scanning ws start i → (j : ℕ) → i ≡ j + 1 → {r : Rec} → r ≡ recAt ws j →
-    Fine r → r .group ≡ 0 → UnitBefore ws start i (record { first = j; base = r .advance })
+pub unit-alone : {ws : List ℕ} {start i : ℕ} → Scanning ws start i → (j : ℕ) → i ≡ j + 1 → {r : Rec} →
+    r ≡ recAt ws j → Fine r → r .group ≡ 0 → UnitBefore ws start i (record { first = j; base = r .advance })
 unit-alone {ws} s j e {r} q f g =
-    let apart : sameGroup (recAt ws (j - 1)) (recAt ws j) ≡ false = rw q at (alone-apart (recAt ws (j - 1)) r g) in
+    let apart : sameGroup (recAt ws (j - 1)) (recAt ws j) ≡ false = rw q at (no-group (recAt ws (j - 1)) r g) in
     rw q (unit-found s (walked-last s j e (rw q at f)) (λ h. apart))
 
 -- the unit so far, its first record r and the record p before it

@@ -25,9 +25,9 @@ use Rattle.rules.specs.Packed.{unpacked}
 use Rattle.rules.specs.Meanings.{All}
 use Rattle.compose.specs.Paragraph.{size, paragraph, from, unitAt}
 use Rattle.compose.specs.Rows.{outer, bit, Rowed}
-use Rattle.compose.specs.declared.rows.UnitSums.{UnitSums}
+use Rattle.compose.specs.declared.units.UnitSums.{UnitSums}
 use Rattle.compose.specs.declared.rows.UnitDone.{UnitDone}
-use Rattle.compose.specs.declared.rows.Joint.{Joint}
+use Rattle.compose.specs.declared.units.Joint.{Joint}
 
 abbrev pub Fine : Rec → Type 0
 Fine r = recOk r ≡ true

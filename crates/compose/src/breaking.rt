@@ -4,8 +4,8 @@ ghost use Rattle.compose.specs.LineFrom.{LineDue, LineFrom, ToBreak, Bro
 use rules::added;
 use rules::least_of;
 
-// A line that starts with some record: the record after it, where its units would end if they stood solid, and what its
-// gaps add up to, in one word. Where no line fits, `end` is its first record.
+// A line that starts with some record: the record after it, where its units would end if they stood solid, and what
+// its gaps add up to, in one word. Where no line fits, `end` is its first record.
 pub(crate) struct LineSums {
     pub end: usize,
     pub solid: u32,

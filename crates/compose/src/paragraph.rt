@@ -29,8 +29,8 @@ fn says(number: u32, place: usize) -> Answer
 }
 
 // Answers 8, 12 and 9 of a paragraph, which no measure changes; or 0, and its rows are filled. Its rows from record
-// `kept` on are filled already, and those before the unit that record `stop` is in. Of the records before `start` it is
-// known that they keep their own rules, and of those outside of `start` up to `end` that they are listed.
+// `kept` on are filled already, and those before the unit that record `stop` is in. Of the records before `start` it
+// is known that they keep their own rules, and of those outside of `start` up to `end` that they are listed.
 fn check_records(
     ws: &[u32],
     start: usize,
@@ -69,8 +69,8 @@ fn check_records(
     says(0, 0)
 }
 
-// Whether and how a paragraph breaks into lines: answers 8, 12, 9 and 10; or 0 and the line count, and then its rows are
-// filled and the first record of each line stands in `starts`.
+// Whether and how a paragraph breaks into lines: answers 8, 12, 9 and 10; or 0 and the line count, and then its rows
+// are filled and the first record of each line stands in `starts`.
 pub fn check(
     ws: &[u32],
     m: u32,
@@ -98,9 +98,9 @@ pub fn check(
 }
 
 // Composes a paragraph, of which the records from `start` up to `end` are new: the others are known to be listed, and
-// those before `start` to keep their own rules. Its rows from record `kept` on are filled already, and those before the
-// unit that record `stop` is in. Where it is accepted its place words and line words stand at the front of `places` and
-// `lines`, and the answer is 0 and the line count.
+// those before `start` to keep their own rules. Its rows from record `kept` on are filled already, and those before
+// the unit that record `stop` is in. Where it is accepted its place words and line words stand at the front of
+// `places` and `lines`, and the answer is 0 and the line count.
 pub fn compose(
     ws: &[u32],
     start: usize,

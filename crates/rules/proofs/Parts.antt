@@ -35,7 +35,7 @@ all-drop (all-more h g) (suc k) = all-drop g k
 pub all-first : {A : Type 0} {P : A → Type 0} {p : A} {ps : List A} → All P (p ∷ ps) → P p
 all-first (all-more h g) = h
 
-all-append : {A : Type 0} {P : A → Type 0} {ps qs : List A} → All P ps → All P qs → All P (ps ++ qs)
+pub all-append : {A : Type 0} {P : A → Type 0} {ps qs : List A} → All P ps → All P qs → All P (ps ++ qs)
 all-append all-none h = h
 all-append (all-more g f) h = all-more g (all-append f h)
 

@@ -45,9 +45,9 @@ pub(crate) fn damaged() -> Answer
     }
 }
 
-// Answer 4, or 0 and how many lines the rules give the slot's records: then the records' rows are filled, and the first
-// record of each line stands in `starts`. The stored line words are not looked at, since on a sheet of any words they
-// may be anything.
+// Answer 4, or 0 and how many lines the rules give the slot's records: then the records' rows are filled, and the
+// first record of each line stands in `starts`. The stored line words are not looked at, since on a sheet of any words
+// they may be anything.
 pub(crate) fn stored_lines(
     words: &[u32],
     advances: &mut [u32; 256],
@@ -81,8 +81,8 @@ pub(crate) fn stored_lines(
 }
 
 // Composes the first `total` words of `list` as the slot's records and, where they are accepted, writes the slot. Of
-// the records those from `start` up to `end` are new; the others were the slot's, and answer 4 has asked them. The rows
-// of the records from `kept` on are filled, and those before the unit that record `stop` is in.
+// the records those from `start` up to `end` are new; the others were the slot's, and answer 4 has asked them. The
+// rows of the records from `kept` on are filled, and those before the unit that record `stop` is in.
 fn replace(
     words: &mut [u32],
     list: &[u32],

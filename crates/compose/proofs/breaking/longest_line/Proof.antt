@@ -78,7 +78,8 @@ loop-again c =
 returns-2 : tie.Need-returns-2 Inv-loop μ-loop
 returns-2 c =
     let l = c .before in
-    line-found (entry l .pre) (search-end (entry l .pre) (l .loop .inv) (c .loop-test .left)) (l .loop .inv .line-limit)
+    let q = l .loop .inv in
+    line-found (entry l .pre) (search-end (entry l .pre) q (c .loop-test .left)) (q .line-limit)
 
 pub longest-line-spec : {M : Type 1} → statement M
 longest-line-spec =

@@ -52,7 +52,8 @@ returns : tie.Need-returns
 returns c =
     let k = c .before .before in
     let f = k .before .before in
-    let e = named (size (words f)) (k .first-bad-record .result) _ (k .first-bad-record .ensures) (c .before .if2 .taken) in
+    let e = named (size (words f)) (k .first-bad-record .result) _ (k .first-bad-record .ensures)
+    (c .before .if2 .taken) in
     rows-refused (c .says .ensures) (λ z. omega arith) (λ m x. judged-8 m x _ _ e)
 
 returns-2 : tie.Need-returns-2

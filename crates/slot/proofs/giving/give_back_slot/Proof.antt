@@ -17,7 +17,8 @@ returns : tie.Need-returns
 returns c =
     let d = c .before in
     let w = now (entry (d .before .before) .args .words) in
-    gives-4 w _ _ (stored-4 _ (d .before .before .stored-lines .ensures .0 .answer) (d .if1 .taken)) (c .damaged .ensures)
+    let a = d .before .before .stored-lines .ensures .0 .answer in
+    gives-4 w _ _ (stored-4 _ a (d .if1 .taken)) (c .damaged .ensures)
 
 returns-2 : tie.Need-returns-2
 returns-2 c =

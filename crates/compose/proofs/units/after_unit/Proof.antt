@@ -1,11 +1,11 @@
--- `compose::rows::after_unit` meets its contract. Assumes nothing.
+-- `compose::units::after_unit` meets its contract. Assumes nothing.
 use mathlib.Core.Path.{ap, sym, _∙_}
 use borrow.Author.Needs.{needs}
 use borrow.Author.Tests.{not-true, not-false}
 use Rattle.compose.specs.Rows.{bit}
 use Rattle.compose.proofs.Joints.{joint-none, joint-found}
-use Rattle.compose.proofs.rows.after_unit.Statement.{statement}
-use Rattle.compose.proofs.rows.after_unit.Tie as tie
+use Rattle.compose.proofs.units.after_unit.Statement.{statement}
+use Rattle.compose.proofs.units.after_unit.Tie as tie
 
 returns : tie.Need-returns
 returns c = joint-none (not-true _ (c .if1 .taken))

@@ -1,4 +1,4 @@
--- `compose::rows::unit_before` meets its contract. The loop's invariant is `UnitWalk`. Assumes nothing.
+-- `compose::units::unit_before` meets its contract. The loop's invariant is `UnitWalk`. Assumes nothing.
 use mathlib.Core.Path.{_≡_, sym, _∙_}
 use Prim.Native.Nat.{_+_, _-_}
 use native.Mathlib.Omega.{arith}
@@ -13,8 +13,8 @@ use Rattle.rules.proofs.Limits.{record-bounds}
 use Rattle.compose.specs.Scan.{Fine}
 use Rattle.compose.proofs.UnitWalk.{UnitWalk, walk-start, Walked, walk-turn, known-fine, Meeting, walk-again}
 use Rattle.compose.proofs.UnitWalk.{unit-unsound, unit-first, unit-apart, unit-unlike, unit-many}
-use Rattle.compose.proofs.rows.unit_before.Statement.{statement}
-use Rattle.compose.proofs.rows.unit_before.Tie as tie
+use Rattle.compose.proofs.units.unit_before.Statement.{statement}
+use Rattle.compose.proofs.units.unit_before.Tie as tie
 
 abbrev Inv-loop : tie.InvT-loop
 Inv-loop ws i start classes none first₀ base₀ first base = UnitWalk ws i first base

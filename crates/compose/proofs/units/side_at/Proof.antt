@@ -1,10 +1,10 @@
--- `compose::rows::side_at` meets its contract. Assumes nothing.
+-- `compose::units::side_at` meets its contract. Assumes nothing.
 use mathlib.Core.Path.{ap}
 use borrow.Author.Needs.{needs}
 use borrow.Author.Tests.{eq-eqb, ne-eqb}
 use Rattle.rules.specs.Sides.{sideBy}
-use Rattle.compose.proofs.rows.side_at.Statement.{statement}
-use Rattle.compose.proofs.rows.side_at.Tie as tie
+use Rattle.compose.proofs.units.side_at.Statement.{statement}
+use Rattle.compose.proofs.units.side_at.Tie as tie
 
 record-at-requires : tie.Need-record-at-requires
 record-at-requires c κs = search needs
