@@ -1,7 +1,7 @@
 -- Answers 8, 12, 9 and 10 from the places that the searches give. Assumes nothing.
 use mathlib.Core.Path.{_≡_, refl, sym, ap, _∙_}
 use mathlib.Core.List.{List, [], _∷_, _++_}
-use mathlib.Core.Bool.{Bool, _&&_, true}
+use mathlib.Core.Bool.{Bool, _&&_, true, false}
 use mathlib.Core.Logic.{inl, inr}
 use mathlib.Core.Option.{Option, none, some}
 use Prim.Native.Nat.{ℕ, zero, suc, _+_, _≤_, _<_}
@@ -25,9 +25,8 @@ use Rattle.rules.proofs.Lengths.{counts-units, length-linesOf, composed-few}
 use Rattle.rules.proofs.Words.{length-records}
 use Rattle.compose.specs.Paragraph.{size, paragraph, Checked, placeOr}
 use Rattle.compose.specs.Lines.{firsts, broken, composed, Broken}
-use Rattle.compose.specs.Rows.{Rowed}
-use Rattle.compose.specs.Scan.{Clean, Scanned, Front}
-use Rattle.compose.specs.Composed.{RowsJudged, Kept, Started}
+use Rattle.compose.specs.Scan.{Scanned, Front}
+use Rattle.compose.specs.Composed.{RecordsJudged, RowsJudged, Kept, Started}
 
 -- a place below n names an answer; n itself names none, where answers name places below n
 pub named : (n r : ℕ) (o : Option ℕ) → r ≡ placeOr n o → r < n → o ≡ some r
@@ -116,29 +115,27 @@ module _ (m x : ℕ) {ws : List ℕ} (c : Checked ws) where
   unfolding judged
   judged-0 e = rw (c .sound, c .listed, c .grouped, e)
 
--- a refusal and an acceptance, as the contract of `check_records` has them
-module _ {ws ds gs os : List ℕ} {number place : ℕ} where
-  pub rows-refused : {n p : ℕ} → (number ≡ n) × (place ≡ p) → (n ≡ 0 → ⊥) →
-      ((m x : ℕ) → judged m x (paragraph ws) ≡ says n p) → RowsJudged ws ds gs os number place
-  rows-refused e z h =
-      record {
-        records =
-            record { refused = λ q m x. rw (e .0, e .1) (h m x); accepted = λ q. absurd (z (sym (e .0) ∙ q)) };
-        rows = λ q. absurd (z (sym (e .0) ∙ q));
-      }
+-- a refusal and an acceptance, as the contract of `first_fault` has them
+module _ {ws : List ℕ} {number place : ℕ} where
+  pub refused : {n p : ℕ} → (number ≡ n) × (place ≡ p) → (n ≡ 0 → ⊥) →
+      ((m x : ℕ) → judged m x (paragraph ws) ≡ says n p) → RecordsJudged ws number place
+  refused e z h =
+      record { refused = λ q m x. rw (e .0, e .1) (h m x); accepted = λ q. absurd (z (sym (e .0) ∙ q)) }
 
-  pub rows-accepted : number ≡ 0 → Checked ws → Rowed ws ds gs os 0 → RowsJudged ws ds gs os number place
-  rows-accepted e c r =
-      record { records = record { refused = λ q. absurd (q e); accepted = λ q. c }; rows = λ q. r }
+  pub accepted : number ≡ 0 → Checked ws → RecordsJudged ws number place
+  accepted e c = record { refused = λ q. absurd (q e); accepted = λ q. c }
 
--- what the scan's yes says, where what stands before is known; and a clean paragraph's rows are filled
-module _ {ws ds₀ gs₀ os₀ ds gs os : List ℕ} {start stop : ℕ} {b : Bool}
-    (s : Scanned ws start stop ds₀ gs₀ os₀ ds gs os b) (f : Front ws start stop ds₀ gs₀ os₀) where
-  pub scanned-clean : b ≡ true → Clean ws × Rowed ws ds gs os 0
-  scanned-clean e = let r = s .reached e in f (r .at) ds gs os (r .low) (r .rows) (r .below)
+-- the scan's yes, where what stands before is known, and its no
+module _ {ws ds₀ gs₀ os₀ ds gs os : List ℕ} {start stop number place : ℕ} {b : Bool}
+    (s : Scanned ws start stop ds₀ gs₀ os₀ ds gs os b) where
+  pub scanned-rows : Front ws start stop ds₀ gs₀ os₀ → b ≡ true → number ≡ 0 → RowsJudged ws ds gs os number place
+  scanned-rows f e z =
+      let r = s .reached e in
+      let k = f (r .at) ds gs os (r .low) (r .rows) (r .below) in
+      record { records = accepted z (k .checked); rows = λ q. k .rows }
 
-  pub clean-rows : Clean ws → Rowed ws ds gs os 0
-  clean-rows c = elim (tested b) [ inl e ↦ scanned-clean e .1 | inr e ↦ absurd (s .ill e c) ]
+  pub scanned-fault : b ≡ false → RecordsJudged ws number place → RowsJudged ws ds gs os number place
+  scanned-fault e r = record { records = r; rows = λ z. absurd (s .ill e (r .accepted z)) }
 
 -- there are as many lines as the breaking gives, and no more than records
 pub lines-composed : (ws : List ℕ) (m x : ℕ) → length (composed ws m x) ≡ length (broken ws m x)

@@ -1,26 +1,20 @@
 -- The loops of answers 8, 12 and 9, as steps: what is left from a record on gives what the whole paragraph gives.
 -- Assumes nothing.
-use mathlib.Core.Path.{_≡_, sym, ap, _∙_}
+use mathlib.Core.Path.{_≡_}
 use Prim.Native.Nat.{ℕ, suc, _+_, _-_, _≤_, _<_}
 use native.Mathlib.Omega.{arith}
-use native.Mathlib.Nat.{sub-zero, zero-add}
+use native.Mathlib.Nat.{sub-zero}
 use mathlib.Core.Bool.{Bool, true, false, _&&_}
 use mathlib.Core.List.{List, [], _∷_}
 use mathlib.Core.Logic.{inl, inr}
-use mathlib.Core.Option.{none}
-use lib.ListN.{length, drop}
 use lib.Dec.{eqb}
 use borrow.Author.Tests.{lt-ltb, le-ltb}
 use Rattle.rules.specs.Basics.{firstFailing}
 use Rattle.rules.specs.Records.{Rec, recAt, records}
-use Rattle.rules.specs.Listed.{isListed, notListed}
 use Rattle.rules.specs.Groups.{sameGroup, badGroup, groupFault}
-use Rattle.rules.specs.Meanings.{All, all-none}
 use Rattle.rules.proofs.Facts.{ordered}
-use Rattle.rules.proofs.FirstFailing.{all-pass, pass-over}
-use Rattle.rules.proofs.Words.{length-records}
-use Rattle.compose.specs.Paragraph.{size, paragraph, IsListed, ListedBut, placeOr}
-use Rattle.compose.proofs.Walk.{records-from, records-left}
+use Rattle.compose.specs.Paragraph.{size, paragraph, placeOr}
+use Rattle.compose.proofs.Walk.{records-from}
 
 pub records-end : (ws : List ℕ) (i : ℕ) → size ws ≤ i → records ws i (size ws - i) ≡ []
 unfolding records
@@ -53,55 +47,6 @@ module _ {t : Rec → Bool} {ws : List ℕ} where
   pub passed-end : {i : ℕ} → size ws ≤ i → Passed t ws i → size ws ≡ failingPlace t ws
   unfolding firstFailing
   passed-end {i} h s = rw (← s .same, records-end ws i h)
-
--- Answer 12 is asked up to a record `end`: the records before i are listed, and so are those from `end` on
-pub record AskedTo (ws : List ℕ) (end i : ℕ) : Type 0 where
-  pub passed : Passed isListed ws i
-  pub within : i ≤ end
-  pub inside : end ≤ size ws
-  pub after : All IsListed (drop end (paragraph ws))
-
--- where all records are new, nothing is known
-pub all-new : (ws : List ℕ) → ListedBut ws 0 (size ws)
-all-new ws =
-    let e = records-left ws (size ws) (omega arith) ∙ records-end ws (size ws) (omega arith) in
-    record { order = omega arith; inside = omega arith; before = all-none; after = rw e all-none }
-
-module _ {ws : List ℕ} where
-  pub asked-start : {start end : ℕ} → ListedBut ws start end → AskedTo ws end start
-  asked-start {start} l =
-      let h : start ≤ size ws = omega (arith, l .order, l .inside) in
-      let n : start ≤ length (paragraph ws) = omega (arith, length-records ws 0 (size ws)) in
-      let e = pass-over isListed 0 start (paragraph ws) n (l .before) in
-      record {
-        passed = record { same = sym (rw zero-add at e ∙ ap (firstFailing isListed start) (records-left ws start h)) };
-        within = l .order;
-        inside = l .inside;
-        after = l .after;
-      }
-
-  pub asked-more : {end i : ℕ} → i < end → isListed (recAt ws i) ≡ true → AskedTo ws end i → AskedTo ws end (i + 1)
-  asked-more h e a =
-      record {
-        passed = passed-more (omega (arith, a .inside)) e (a .passed);
-        within = omega arith;
-        inside = a .inside;
-        after = a .after;
-      }
-
-  pub asked-not : {end i : ℕ} → i < end → isListed (recAt ws i) ≡ false → AskedTo ws end i →
-      i ≡ placeOr (size ws) (notListed 0 (paragraph ws))
-  unfolding notListed
-  asked-not h e a = passed-not (omega (arith, a .inside)) e (a .passed)
-
-  pub asked-end : {end i : ℕ} → end ≤ i → AskedTo ws end i → size ws ≡ placeOr (size ws) (notListed 0 (paragraph ws))
-  unfolding notListed
-  asked-end {end} {i} h a =
-      let k : i ≤ size ws = omega (arith, a .within, a .inside) in
-      let n : end ≡ i = omega (arith, a .within) in
-      let e : firstFailing isListed i (records ws i (size ws - i)) ≡ none =
-      ap (firstFailing isListed i) (sym (records-left ws i k)) ∙ all-pass isListed i (rw n at (a .after)) in
-      rw (← a .passed .same, e)
 
 -- Answer 9 ---------------------------------------------------------------------------------------------------------
 

@@ -9,23 +9,23 @@ use mathlib.Core.List.{List, [], _∷_, _++_}
 use mathlib.Core.Logic.{inl, inr}
 use mathlib.Core.Option.{none, some}
 use lib.ListN.{length, take, drop, getD, length-append}
-use Rattle.rules.specs.Records.{recAt, records, recOk, badRecord}
+use Rattle.rules.specs.Records.{recAt, records}
 use Rattle.rules.specs.Sides.{sideBy, forbidden}
 use Rattle.rules.specs.Groups.{TextUnit, sameGroup, groupFault, units, side, advance, baseOffsets}
 use Rattle.rules.specs.Gaps.{gapOf}
 use Rattle.rules.specs.Meanings.{All, lastOf}
 use Rattle.rules.proofs.Facts.{ordered}
-use Rattle.rules.proofs.FirstFailing.{all-pass}
-use Rattle.rules.proofs.GroupedRecords.{all-fine}
 use Rattle.rules.proofs.Lengths.{counts-units}
 use Rattle.rules.proofs.Parts.{all-take, all-append}
 use Rattle.rules.proofs.Words.{length-records, take-records, drop-records}
 use Rattle.compose.specs.Paragraph.{size, paragraph, from, headOr, unitAt, nextAt}
 use Rattle.compose.specs.Rows.{Row, inner, outer, unitRows, RowIs, Held, held-more, rowsOf, Rowed}
-use Rattle.compose.specs.Scan.{Fine, Clean, RowsFrom, Below, Front}
+use Rattle.compose.specs.Scan.{Fine, RowsFrom, Below, Front}
 use Rattle.compose.specs.Composed.{Kept}
 use Rattle.compose.proofs.Walk.{unit-step}
 use Rattle.compose.proofs.HeldRows.{rowsBefore, rows-split, length-rowsBefore, length-rowsOf}
+use Rattle.compose.proofs.Checked.{checked-fine, fine-checked}
+use Rattle.compose.proofs.RowsBelow.{below-trans}
 use Rattle.compose.proofs.RowScan.{front-none}
 use Rattle.compose.proofs.GroupParts.{fault-take, fault-join}
 use Rattle.compose.proofs.KeptRows.{last-record, records-apart, from-apart}
@@ -169,7 +169,7 @@ module _ {ws ds gs os : List ℕ} (k : Kept ws ds gs os) (vs : List ℕ) (p : �
     front-fine : All Fine (records vs 0 i)
     front-fine =
         rw (front-same i (omega arith), ← take-records ws 0 (size ws) i (omega (arith, old)))
-        (all-take (all-fine 0 (paragraph ws) (k .checked .sound)) i)
+        (all-take (checked-fine (k .checked)) i)
 
     front-grouped : groupFault (records vs 0 i) ≡ none
     front-grouped =
@@ -193,14 +193,13 @@ module _ {ws ds gs os : List ℕ} (k : Kept ws ds gs os) (vs : List ℕ) (p : �
         (sym (ap (λ rs. groupFault rs) rest) ∙ r .scanning .grouped)
         e
 
-    all-clean : Clean vs
-    unfolding badRecord
-    all-clean =
+    all-kept : Kept vs ds′ gs′ os′
+    all-kept =
         record {
-          sound =
-              all-pass recOk 0
-              (subst (λ rs. All Fine rs) split (all-append front-fine (r .scanning .sound)));
-          grouped = all-grouped;
+          checked =
+              fine-checked (r .scanning .few)
+              (subst (λ rs. All Fine rs) split (all-append front-fine (r .scanning .sound))) all-grouped;
+          rows = all-rows;
         }
 
   -- tables that have the old list's rows below row p
@@ -208,16 +207,6 @@ module _ {ws ds gs os : List ℕ} (k : Kept ws ds gs os) (vs : List ℕ) (p : �
       Front vs start (p - 1) ds′ gs′ os′
   front-kept start {ds′} {gs′} {os′} b i ds″ gs″ os″ h r w =
       elim (ordered 0 i) [
-        | inl l ↦
-            let n : i < p = omega arith in
-            let all : Below i ds gs os ds″ gs″ os″ =
-            record {
-              advances = λ j f. w .advances j f ∙ b .advances j (omega arith);
-              gaps = λ j f. w .gaps j f ∙ b .gaps j (omega arith);
-              offsets = λ j f. w .offsets j f ∙ b .offsets j (omega arith);
-            } in
-            (all-clean start i l n r all, all-rows start i l n r all)
-        | inr l ↦
-            let z : i ≡ 0 = omega arith in
-            front-none vs start ds′ gs′ os′ i ds″ gs″ os″ (omega arith) r w
+        | inl l ↦ all-kept start i l (omega arith) r (below-trans b w (omega arith))
+        | inr l ↦ front-none vs start ds′ gs′ os′ i ds″ gs″ os″ (omega arith) r w
       ]

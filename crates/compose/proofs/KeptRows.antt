@@ -16,13 +16,13 @@ use Rattle.rules.proofs.Facts.{ordered}
 use Rattle.rules.proofs.Cuts.{cut-split}
 use Rattle.rules.proofs.Lengths.{counts-units}
 use Rattle.rules.proofs.Parts.{all-take, all-drop}
-use Rattle.rules.proofs.GroupedRecords.{all-fine}
 use Rattle.rules.proofs.Words.{length-records, take-records}
 use Rattle.compose.specs.Paragraph.{size, paragraph, from, headOr}
 use Rattle.compose.specs.Rows.{Row, RowIs, Held, held-none, held-more, rowsOf, Rowed}
 use Rattle.compose.specs.Scan.{Fine, RowsFrom}
 use Rattle.compose.specs.Composed.{Kept}
 use Rattle.compose.specs.Kept.{UnitFrom, RowsMoved, KeptFrom}
+use Rattle.compose.proofs.Checked.{checked-fine}
 use Rattle.compose.proofs.GroupParts.{no-group, fault-drop}
 use Rattle.compose.proofs.Walk.{records-from, records-left}
 use Rattle.compose.proofs.HeldRows.{held-after, length-rowsOf}
@@ -141,7 +141,7 @@ module _ {ws ds gs os : List ℕ} {d a : ℕ} (k : Kept ws ds gs os) (u : UnitFr
               few = few;
               within = within;
               known = known;
-              sound = rw (same, ← drops) (all-drop (all-fine 0 (paragraph ws) (k .checked .sound)) a);
+              sound = rw (same, ← drops) (all-drop (checked-fine (k .checked)) a);
               grouped = rw (same, ← drops) (fault-drop a (paragraph ws) (k .checked .grouped));
               apart = λ h l. new-apart f l;
             };
@@ -196,5 +196,5 @@ module _ {ws ds gs os : List ℕ} {d to r : ℕ} {ds′ gs′ os′ : List ℕ} 
       let same = sym (records-left vs r within) ∙ drop-same r (q .first) (u .low) (q .place)
       ∙ records-left ws (q .first) (u .within) in
       let known : All Fine (take start (paragraph vs)) =
-      rw e (all-take (all-fine 0 (paragraph ws) (k .checked .sound)) start) in
+      rw e (all-take (checked-fine (k .checked)) start) in
       kept-rows k u vs r start same within few known (before-same h) (q .moved)

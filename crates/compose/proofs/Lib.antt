@@ -2,8 +2,9 @@
 -- units and answers
 pub mod Walk
 pub mod Faults
+pub mod Checked
 pub mod Answers
--- the scan that fills the rows: `unit_before` and `after_unit`, `put_unit`, `fill_unit` and `fill_rows`
+-- the scan that fills the rows: `unit_before` and `joint_after`, `put_unit`, `fill_unit` and `fill_rows`
 pub mod Limits
 pub mod GroupParts
 pub mod GroupScan

@@ -5,13 +5,13 @@ use Prim.Native.Nat.{ℕ, zero, suc, _+_, _*_, _-_, _≤_, _<_}
 use native.Mathlib.Omega.{arith}
 use mathlib.Core.List.{List}
 use mathlib.Core.Logic.{inl, inr}
-use Rattle.rules.specs.Records.{recAt, records, recOk}
+use Rattle.rules.specs.Records.{recAt, records}
 use Rattle.rules.specs.Sides.{sideBy}
 use Rattle.rules.specs.Groups.{sameGroup, count, advances, baseTotal, advance}
 use Rattle.rules.specs.Meanings.{All}
 use Rattle.rules.specs.Values.{SideOk}
 use Rattle.rules.proofs.Facts.{tested}
-use Rattle.rules.proofs.FirstFailing.{passes-at}
+use Rattle.rules.proofs.Parts.{all-first, all-drop}
 use Rattle.rules.proofs.Limits.{RecordBounds, record-bounds, side-ok}
 use Rattle.rules.proofs.GroupLimits.{advance-bound-of}
 use Rattle.rules.proofs.Words.{drop-records}
@@ -25,14 +25,14 @@ module _ (ws : List ℕ) (a : ℕ) (fine : All Fine (records ws a (size ws - a))
   record-fine i l h =
       let e : a + (i - a) ≡ i = omega arith in
       let f : size ws - a - (i - a) ≡ size ws - i = omega arith in
-      passes-at recOk fine (i - a) (recAt ws i) (records ws (i + 1) (size ws - (i + 1)))
-      (rw (e, f) at (drop-records ws a (size ws - a) (i - a) (omega arith)) ∙ records-from ws i h)
+      let d = rw (e, f) at (drop-records ws a (size ws - a) (i - a) (omega arith)) ∙ records-from ws i h in
+      all-first (rw d at (all-drop fine (i - a)))
 
   pub record-limits : (i : ℕ) → a ≤ i → i < size ws → RecordBounds (recAt ws i)
-  record-limits i l h = record-bounds (recAt ws i) (record-fine i l h)
+  record-limits i l h = record-bounds (recAt ws i) (record-fine i l h .sound)
 
   pub side-limits : (i : ℕ) → a ≤ i → i < size ws → SideOk (sideBy (recAt ws i))
-  side-limits i l h = side-ok (recAt ws i) (record-fine i l h)
+  side-limits i l h = side-ok (recAt ws i) (record-fine i l h .sound)
 
   -- each record of a unit takes at most 8,000; n records are left from record i on
   base-from : (n i : ℕ) → a ≤ i → i + suc n ≡ size ws → baseTotal (unitAt ws i) ≤ 8000 * count (unitAt ws i)

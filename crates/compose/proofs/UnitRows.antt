@@ -67,7 +67,7 @@ offsets-end : (ws : List ℕ) (a k solid : ℕ) → count (unitAt ws a) ≤ k �
 unfolding offsetsFrom records offsets
 offsets-end ws a k solid h = let e : count (unitAt ws a) - k ≡ 0 = omega arith in rw e
 
-bit-small : (b : Bool) → bit b ≤ 1
+pub bit-small : (b : Bool) → bit b ≤ 1
 bit-small true = omega arith
 bit-small false = omega arith
 

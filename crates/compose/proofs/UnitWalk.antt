@@ -1,5 +1,5 @@
--- The walk of `unit_before` from the record after a unit to its first record, and where it says that answer 8 or 9
--- applies. Assumes nothing.
+-- The walk of `unit_before` from the record after a unit to its first record, and where it says that answer 8, 12
+-- or 9 applies. Assumes nothing.
 use mathlib.Core.Path.{_≡_, refl, ap, sym, _∙_}
 use Prim.Native.Nat.{ℕ, zero, suc, _+_, _*_, _-_, _≤_, _<_}
 use native.Mathlib.Omega.{arith}
@@ -9,34 +9,37 @@ use mathlib.Core.List.{List, [], _∷_}
 use mathlib.Core.Logic.{inl, inr}
 use lib.ListN.{take, drop}
 use Rattle.rules.specs.Basics.{alone, then}
-use Rattle.rules.specs.Records.{Rec, recAt, records, recOk}
+use Rattle.rules.specs.Records.{Rec, recAt, records}
 use Rattle.rules.specs.Groups.{sameGroup, units, count, advances, baseTotal}
 use Rattle.rules.specs.Meanings.{All, all-more}
 use Rattle.rules.proofs.Facts.{ordered, true-false, nil-cons}
-use Rattle.rules.proofs.Limits.{record-bounds, records-ok}
+use Rattle.rules.proofs.Parts.{all-first, all-drop}
+use Rattle.rules.proofs.Limits.{record-bounds}
 use Rattle.rules.proofs.GroupLimits.{headCount, units-few}
-use Rattle.compose.specs.Paragraph.{size, paragraph, from, unitAt, nextAt}
-use Rattle.compose.specs.Scan.{Fine, Clean, Scanning, UnitBefore}
+use Rattle.compose.specs.Paragraph.{size, paragraph, from, unitAt, nextAt, Checked}
+use Rattle.compose.specs.Scan.{Fine, Scanning, UnitBefore}
 use Rattle.compose.proofs.Walk.{records-from, records-left, unit-step, unit-last, unit-more}
+use Rattle.compose.proofs.Checked.{checked-fine}
 use Rattle.compose.proofs.Faults.{alike, records-end}
 use Rattle.compose.proofs.GroupParts.{no-group}
 use Rattle.compose.proofs.GroupScan.{Keeps, keeps-last, keeps-apart, keeps-more, keeps-all, group-alike}
 
--- where answers 8 and 9 do not apply ------------------------------------------------------------------------------
+-- where answers 8, 12 and 9 do not apply -------------------------------------------------------------------------
 
-module _ {ws : List ℕ} (c : Clean ws) (j : ℕ) where
-  pub clean-fine : j < size ws → Fine (recAt ws j)
+module _ {ws : List ℕ} (c : Checked ws) (j : ℕ) where
+  clean-fine : j < size ws → Fine (recAt ws j)
   clean-fine h =
-      records-ok 0 (paragraph ws) (c .sound) j (recAt ws j) _ (records-left ws j (omega arith) ∙ records-from ws j h)
+      let e = records-left ws j (omega arith) ∙ records-from ws j h in
+      all-first (rw e at (all-drop (checked-fine c) j))
 
-  pub clean-alike : j + 1 < size ws → sameGroup (recAt ws j) (recAt ws (j + 1)) ≡ true →
+  clean-alike : j + 1 < size ws → sameGroup (recAt ws j) (recAt ws (j + 1)) ≡ true →
       alike (recAt ws j) (recAt ws (j + 1)) ≡ true
   clean-alike h e =
       group-alike (paragraph ws) (c .grouped) j (recAt ws j) (recAt ws (j + 1)) _
       (records-left ws j (omega arith) ∙ records-from ws j (omega arith)
       ∙ ap (λ rs. recAt ws j ∷ rs) (records-from ws (j + 1) h)) e
 
-  pub clean-few : j < size ws → count (unitAt ws j) ≤ 16
+  clean-few : j < size ws → count (unitAt ws j) ≤ 16
   unfolding from
   clean-few h =
       let e : headCount (units (drop j (paragraph ws))) ≡ count (unitAt ws j) =
@@ -87,7 +90,7 @@ module _ {ws : List ℕ} {start i : ℕ} (s : Scanning ws start i) where
   walked-last : (j : ℕ) → i ≡ j + 1 → Fine (recAt ws j) → Walked ws i j (recAt ws j .advance)
   unfolding advances
   walked-last j e f =
-      let b = record-bounds (recAt ws j) f in
+      let b = record-bounds (recAt ws j) (f .sound) in
       let w = s .within in
       let d : i - j ≡ 1 = omega arith in
       record {
@@ -129,7 +132,7 @@ unfolding advances
 walked-more {ws} {i} {base} j w few g a f =
     let o = w .order in
     let t = w .within in
-    let b = record-bounds (recAt ws j) f in
+    let b = record-bounds (recAt ws j) (f .sound) in
     let u : unitAt ws j ≡ then (alone (recAt ws j)) (unitAt ws (j + 1)) = rw (unit-more ws j (omega arith), g) in
     let d : i - j ≡ suc (i - (j + 1)) = omega arith in
     record {
@@ -166,16 +169,13 @@ walk-start h = record { low = h; high = omega arith; light = omega arith; walkin
 -- how it goes on and ends -------------------------------------------------------------------------------------------
 
 -- a record that breaks its own rules, or a group's, was met
-pub unit-none : {ws : List ℕ} {start i : ℕ} → (Clean ws → ⊥) → UnitBefore ws start i (record { first = i; base = 0 })
+pub unit-none : {ws : List ℕ} {start i : ℕ} → (Checked ws → ⊥) → UnitBefore ws start i (record { first = i; base = 0 })
 unit-none h =
     record { low = omega arith; ill = λ e. h; scanning = λ n. absurd (n refl); unit = λ n. absurd (n refl) }
 
-pub unsound : {ws : List ℕ} (j : ℕ) → j < size ws → {r : Rec} → r ≡ recAt ws j → recOk r ≡ false → Clean ws → ⊥
-unsound j h q f c = true-false (sym (clean-fine c j h) ∙ rw q at f)
-
-pub unit-unsound : {ws : List ℕ} {start i : ℕ} (j : ℕ) → j < size ws → {r : Rec} → r ≡ recAt ws j → recOk r ≡ false →
+pub unit-unsound : {ws : List ℕ} {start i : ℕ} (j : ℕ) → j < size ws → {r : Rec} → r ≡ recAt ws j → (Fine r → ⊥) →
     UnitBefore ws start i (record { first = i; base = 0 })
-unit-unsound j h q f = unit-none (unsound j h q f)
+unit-unsound j h q f = unit-none (λ c. f (rw q (clean-fine c j h)))
 
 module _ {ws : List ℕ} {start i first base : ℕ} (s : Scanning ws start i) (w : Walked ws i first base) where
   unit-found : (0 < first → sameGroup (recAt ws (first - 1)) (recAt ws first) ≡ false) →
@@ -250,7 +250,7 @@ module _ {ws : List ℕ} {start i first base : ℕ} {p r : Rec} (m : Meeting ws 
           walking = walking-more w few (rw (m .before, m .here) at g) (rw (m .before, m .here) at a);
         }
 
-    module _ (j : ℕ) (e : first ≡ j + 1) (q : p ≡ recAt ws j) (c : Clean ws) where
+    module _ (j : ℕ) (e : first ≡ j + 1) (q : p ≡ recAt ws j) (c : Checked ws) where
       next : j + 1 < size ws
       next = omega (arith, m .walked .order, m .walked .within)
 

@@ -3,7 +3,6 @@
 --   size         the number of records
 --   from         the units of the records from record i on
 --   unitAt       the unit that starts with record i; nextAt: the record after it
---   listed but   the records but those from record `start` up to `end` stand in the lists of their classes
 --   checked      a paragraph of at most 256 records, to which answers 8, 12 and 9 do not apply
 --
 -- A unit by a record inside a group is what the rules make of the records from there on. Assumes nothing.
@@ -11,13 +10,11 @@ use mathlib.Core.Path.{_≡_}
 use Prim.Native.Nat.{ℕ, _+_, _-_, _/_, _≤_}
 use mathlib.Core.List.{List, [], _∷_}
 use mathlib.Core.Option.{Option, none, some}
-use mathlib.Core.Bool.{true}
-use lib.ListN.{length, take, drop}
+use lib.ListN.{length}
 use Rattle.rules.specs.Basics.{alone}
 use Rattle.rules.specs.Records.{Rec, recAt, records, badRecord}
-use Rattle.rules.specs.Listed.{isListed, notListed}
+use Rattle.rules.specs.Listed.{notListed}
 use Rattle.rules.specs.Groups.{TextUnit, units, count, groupFault}
-use Rattle.rules.specs.Meanings.{All}
 
 abbrev pub size : List ℕ → ℕ
 size ws = length ws / 6
@@ -38,16 +35,6 @@ unitAt ws i = headOr (alone (recAt ws i)) (from ws i)
 
 abbrev pub nextAt : List ℕ → ℕ → ℕ
 nextAt ws i = i + count (unitAt ws i)
-
--- a record's code point stands in the list of its class
-abbrev pub IsListed : Rec → Type 0
-IsListed r = isListed r ≡ true
-
-pub record ListedBut (ws : List ℕ) (start end : ℕ) : Type 0 where
-  pub order : start ≤ end
-  pub inside : end ≤ size ws
-  pub before : All IsListed (take start (paragraph ws))
-  pub after : All IsListed (drop end (paragraph ws))
 
 pub record Checked (ws : List ℕ) : Type 0 where
   pub few : size ws ≤ 256

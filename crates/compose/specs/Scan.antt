@@ -1,12 +1,14 @@
--- The scan from the right that fills the rows and asks 8 and 9 on its way.
+-- The scan from the right that fills the rows and asks 8, 12 and 9 on its way.
 --
---   scanned from    the records from i on keep their own rules and those of groups, and a unit starts with record i;
---                   those before `start` are known to keep their own
---   unit before     the unit that ends before record i, or i where 8 or 9 applies to one of its records
---   after unit      what stands after a unit: the gap and the tie of its last row
---   side from       what a unit's left neighbour sees of it
+--   fine            a record to which answers 8 and 12 do not apply
+--   scanning        the records from i on are fine and keep the rules of groups, and a unit starts with record i; those
+--                   before `start` are known to be fine
+--   unit before     the unit that ends before record i, or i where 8, 12 or 9 applies to one of its records
+--   column          a class's place among the eighteen, of the unit that starts with a record
+--   joint           what stands after a unit: the gap and the tie of its last row
 --   below           tables that have the same rows below a row
---   scanned         the rows are filled down to the unit that record `stop` is in; or 8 or 9 applies to a record
+--   filled          the rows are filled from a record on, and those before it are as they were
+--   scanned         the rows are filled down to the unit that record `stop` is in; or 8, 12 or 9 applies to a record
 --   front           what must be known of the rows before that unit, so that all are filled then
 --
 -- Assumes nothing.
@@ -16,26 +18,22 @@ use mathlib.Core.Bool.{Bool, true, false}
 use mathlib.Core.List.{List, _∷_}
 use mathlib.Core.Option.{none}
 use lib.ListN.{length, take, getD}
-use Rattle.rules.specs.Records.{Rec, recAt, records, recOk, badRecord}
+use Rattle.rules.specs.Records.{Rec, recAt, records, rowOf, recOk}
+use Rattle.rules.specs.Listed.{isListed}
 use Rattle.rules.specs.Groups.{sameGroup, groupFault, count, baseTotal}
-use Rattle.rules.specs.Sides.{Side, sideBy, forbidden}
-use Rattle.rules.specs.Gaps.{gapOf}
-use Rattle.rules.specs.Values.{sideOf}
+use Rattle.rules.specs.Sides.{sideBy}
+use Rattle.rules.specs.Values.{SideOk}
 use Rattle.rules.specs.Packed.{unpacked}
 use Rattle.rules.specs.Meanings.{All}
-use Rattle.compose.specs.Paragraph.{size, paragraph, from, unitAt}
+use Rattle.rules.specs.declared.gaps.Joint.{Joint}
+use Rattle.compose.specs.Paragraph.{size, paragraph, from, unitAt, Checked}
 use Rattle.compose.specs.Rows.{outer, bit, Rowed}
+use Rattle.compose.specs.Composed.{Kept}
 use Rattle.compose.specs.declared.units.UnitSums.{UnitSums}
-use Rattle.compose.specs.declared.rows.UnitDone.{UnitDone}
-use Rattle.compose.specs.declared.units.Joint.{Joint}
 
-abbrev pub Fine : Rec → Type 0
-Fine r = recOk r ≡ true
-
--- answers 8 and 9 do not apply
-pub record Clean (ws : List ℕ) : Type 0 where
-  pub sound : badRecord 0 (paragraph ws) ≡ none
-  pub grouped : groupFault (paragraph ws) ≡ none
+pub record Fine (r : Rec) : Type 0 where
+  pub sound : recOk r ≡ true
+  pub listed : isListed r ≡ true
 
 pub record Scanning (ws : List ℕ) (start i : ℕ) : Type 0 where
   pub few : size ws ≤ 256
@@ -58,21 +56,26 @@ pub record UnitOf (ws : List ℕ) (first end base : ℕ) : Type 0 where
 
 pub record UnitBefore (ws : List ℕ) (start i : ℕ) (r : UnitSums) : Type 0 where
   pub low : r .first ≤ i
-  pub ill : r .first ≡ i → Clean ws → ⊥
+  pub ill : r .first ≡ i → Checked ws → ⊥
   pub scanning : (r .first ≡ i → ⊥) → Scanning ws start (r .first)
   pub unit : (r .first ≡ i → ⊥) → UnitOf ws (r .first) i (r .base)
 
--- the gap after a unit of side l, where one of side r follows, and 1 where the break between them is forbidden, else
--- 0; where none follows, nothing
-pub record AfterUnit (l : Side) (more : Bool) (r : Side) (j : Joint) : Type 0 where
-  pub gap : more ≡ true → unpacked (j .gap) ≡ gapOf l r
-  pub tied : more ≡ true → j .tied ≡ bit (forbidden l r)
-  pub no-gap : more ≡ false → j .gap ≡ 0
-  pub no-tie : more ≡ false → j .tied ≡ 0
+-- the column of the unit that starts with record i, if there is one
+abbrev pub ColumnFrom : List ℕ → ℕ → ℕ → Type 0
+ColumnFrom ws i c = i < size ws → c ≡ rowOf (sideBy (recAt ws i) .class)
 
--- the side of the unit that starts with record i, if there is one
-abbrev pub SideFrom : List ℕ → ℕ → Side → Type 0
-SideFrom ws i s = i < size ws → s ≡ sideBy (recAt ws i)
+-- the sides of the units that start with records `first` and i, if i is there, and their places in the spacing table
+pub record JointDue (ws : List ℕ) (first i row column : ℕ) : Type 0 where
+  pub inside : first < size ws
+  pub left : SideOk (sideBy (recAt ws first))
+  pub right : i < size ws → SideOk (sideBy (recAt ws i))
+  pub row-is : row ≡ rowOf (sideBy (recAt ws first) .class)
+  pub column-is : ColumnFrom ws i column
+
+-- the gap and the tie of the last row of the unit that starts with record `first`, before record i
+pub record JointAfter (ws : List ℕ) (first i : ℕ) (j : Joint) : Type 0 where
+  pub gap : unpacked (j .gap) ≡ outer (unitAt ws first) (from ws i) 0 .gap
+  pub tied : j .tied ≡ bit (outer (unitAt ws first) (from ws i) 0 .tied)
 
 -- the rows from record i on are filled
 pub record RowsFrom (ws : List ℕ) (start i : ℕ) (ds gs os : List ℕ) : Type 0 where
@@ -110,12 +113,16 @@ pub record RowsFilled (ws : List ℕ) (first : ℕ) (ds₀ gs₀ os₀ ds gs os 
   pub gap-room : length gs ≡ 256
   pub offset-room : length os ≡ 256
 
-pub record UnitFilled (ws : List ℕ) (start i : ℕ) (ds₀ gs₀ os₀ ds gs os : List ℕ) (r : UnitDone) : Type 0 where
-  pub low : r .first ≤ i
-  pub ill : r .first ≡ i → Clean ws → ⊥
-  pub scanned : (r .first ≡ i → ⊥) → RowsScanned ws start (r .first) ds gs os
-  pub below : (r .first ≡ i → ⊥) → Below (r .first) ds₀ gs₀ os₀ ds gs os
-  pub side-is : (r .first ≡ i → ⊥) → sideOf (r .side) ≡ sideBy (recAt ws (r .first))
+-- the rows from record `first` on, which is not past record i, and those before it as they were
+pub record Filled (ws : List ℕ) (start i : ℕ) (ds₀ gs₀ os₀ ds gs os : List ℕ) (first column : ℕ) : Type 0 where
+  pub low : first ≤ i
+  pub scanned : RowsScanned ws start first ds gs os
+  pub column-is : ColumnFrom ws first column
+  pub below : Below first ds₀ gs₀ os₀ ds gs os
+
+pub record UnitFilled (ws : List ℕ) (start i : ℕ) (ds₀ gs₀ os₀ ds gs os : List ℕ) (first column : ℕ) : Type 0 where
+  pub ill : first ≡ i → Checked ws → ⊥
+  pub filled : (first ≡ i → ⊥) → Filled ws start i ds₀ gs₀ os₀ ds gs os first column
 
 -- the rows are filled from a record on that is not past `stop`, and those before it are as they were
 pub record Reached (ws : List ℕ) (start stop : ℕ) (ds₀ gs₀ os₀ ds gs os : List ℕ) : Type 0 where
@@ -124,14 +131,15 @@ pub record Reached (ws : List ℕ) (start stop : ℕ) (ds₀ gs₀ os₀ ds gs o
   pub rows : RowsFrom ws start at ds gs os
   pub below : Below at ds₀ gs₀ os₀ ds gs os
 
--- what the scan says: yes, and the rows are filled down to `stop`; or no, and answer 8 or 9 applies to a record
+-- what the scan says: yes, and the rows are filled down to `stop`; or no, and answer 8, 12 or 9 applies to a
+-- record
 pub record Scanned (ws : List ℕ) (start stop : ℕ) (ds₀ gs₀ os₀ ds gs os : List ℕ) (b : Bool) : Type 0 where
   pub reached : b ≡ true → Reached ws start stop ds₀ gs₀ os₀ ds gs os
-  pub ill : b ≡ false → Clean ws → ⊥
+  pub ill : b ≡ false → Checked ws → ⊥
 
--- the rows before a record that is not past `stop` are known to be filled and their records to be clean: so all are,
+-- the rows before a record that is not past `stop` are known to be filled and their records to be checked: so all are,
 -- once the scan has come there
 abbrev pub Front : List ℕ → ℕ → ℕ → List ℕ → List ℕ → List ℕ → Type 0
 Front ws start stop ds₀ gs₀ os₀ =
     (i : ℕ) (ds gs os : List ℕ) → i ≤ stop → RowsFrom ws start i ds gs os → Below i ds₀ gs₀ os₀ ds gs os →
-    Clean ws × Rowed ws ds gs os 0
+    Kept ws ds gs os

@@ -1,11 +1,13 @@
 // Answers 8, 12 and 9, for any words at all. A paragraph is its record words, six to a record.
 ghost use mathlib.Core.Path.{_≡_};
+ghost use mathlib.Core.Bool.{true, false};
 ghost use Prim.Native.Nat.{_<_};
 ghost use Rattle.rules.specs.Records.{recAt, badRecord};
 ghost use Rattle.rules.specs.Listed.{notListed};
 ghost use Rattle.rules.specs.Groups.{joins, groupFault};
-ghost use Rattle.rules.specs.Values.{recordOf};
-ghost use Rattle.compose.specs.Paragraph.{size, paragraph, ListedBut, placeOr};
+ghost use Rattle.rules.specs.Values.{recordOf, classTable};
+ghost use Rattle.compose.specs.Paragraph.{size, paragraph, placeOr};
+ghost use Rattle.compose.specs.Scan.{Fine};
 use lists::in_list;
 use rules::Record;
 use rules::class_table;
@@ -27,6 +29,17 @@ pub(crate) fn record_at(ws: &[u32], i: usize) -> Record
     }
 }
 
+// Whether answers 8 and 12 do not apply to a record. `classes` is the class table.
+pub(crate) fn is_fine(r: Record, classes: &[u8; 28]) -> bool
+    requires { ⌜ now classes ≡ classTable ⌝ }
+    ensures { λ b. ⌜ (b ≡ true → Fine (recordOf r)) × (b ≡ false → Fine (recordOf r) → ⊥) ⌝ }
+{
+    if !record_ok(r, classes) {
+        return false;
+    }
+    in_list(r.class, r.code)
+}
+
 // The first record that breaks its own rules, or how many there are.
 pub(crate) fn first_bad_record(ws: &[u32]) -> usize
     ensures { λ r. ⌜ r ≡ placeOr (size (now (ws .entry))) (badRecord 0 (paragraph (now (ws .entry)))) ⌝ }
@@ -44,15 +57,13 @@ pub(crate) fn first_bad_record(ws: &[u32]) -> usize
     n
 }
 
-// The first record whose class's list lacks its code point, or how many there are. Only the new records are asked,
-// those from `start` up to `end`: the others are known to be listed.
-pub(crate) fn first_not_listed(ws: &[u32], start: usize, end: usize) -> usize
-    requires { ⌜ ListedBut (now ws) start end ⌝ }
+// The first record whose class's list lacks its code point, or how many there are.
+pub(crate) fn first_not_listed(ws: &[u32]) -> usize
     ensures { λ r. ⌜ r ≡ placeOr (size (now (ws .entry))) (notListed 0 (paragraph (now (ws .entry)))) ⌝ }
 {
     let n = ws.len() / 6;
-    let mut i = start;
-    while i < end {
+    let mut i = 0;
+    while i < n {
         let r = record_at(ws, i);
         if !in_list(r.class, r.code) {
             return i;

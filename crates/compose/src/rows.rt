@@ -1,28 +1,30 @@
-// The rows of a paragraph, one for each record, filled from its end in one scan that asks answers 8 and 9 on its way.
+// The rows of a paragraph, one for each record, filled from its end in one scan that asks answers 8, 12 and 9 on its
+// way.
 ghost use mathlib.Core.Path.{_≡_};
 ghost use Prim.Native.Nat.{_<_};
 ghost use lib.ListN.{length, set};
-ghost use Rattle.rules.specs.Values.{sideOf, Laid};
-ghost use Rattle.compose.specs.Scan.{SideFrom, RowsFrom, RowsScanned, UnitToFill, RowsFilled, UnitFilled};
-ghost use Rattle.compose.specs.Scan.{Scanned};
+ghost use Rattle.rules.specs.Values.{Laid};
+ghost use Rattle.compose.specs.Scan.{ColumnFrom, RowsFrom, RowsScanned, UnitToFill, RowsFilled};
+ghost use Rattle.compose.specs.Scan.{Filled, UnitFilled, Scanned};
 use crate::checks::record_at;
-use crate::units::UnitSums;
-use crate::units::after_unit;
+use crate::units::column_at;
+use crate::units::joint_after;
 use crate::units::side_at;
 use crate::units::unit_before;
+use lists::in_list;
 use rules::Entry;
-use rules::Side;
 use rules::base_offset;
 use rules::class_table;
 use rules::entry_words;
 use rules::group_advance;
-use rules::record_ok;
+use rules::plain_ok;
+use rules::row_of;
 use rules::spacing_table;
 
-// A unit whose rows are filled: its first record, and its side.
+// Units whose rows are filled: the first record of the first of them, and the row of its class in the spacing table.
 pub(crate) struct UnitDone {
     pub first: usize,
-    pub side: Side,
+    pub column: usize,
 }
 
 // Writes row `i`.
@@ -92,14 +94,14 @@ fn put_unit(
     );
 }
 
-// Fills the rows of the unit that ends before record `i`, and gives its first record and its side; or gives `i`, where
-// answer 8 or 9 applies to one of its records. `next` is the side of the unit that starts with record `i`, if there is
-// one.
-fn fill_unit(
+// Fills the row of the record before record `i`, where it is of no group and answers 8 and 12 do not apply to it;
+// otherwise it gives `i`. `column` is that of the unit that starts with record `i`, if there is one. Most records come
+// this way: no group, so no ruby and no offset.
+fn fill_lone(
     ws: &[u32],
-    i: usize,
-    next: Side,
     start: usize,
+    i: usize,
+    column: usize,
     classes: &[u8; 28],
     spacing: &[[Entry; 18]; 18],
     words: &[[u64; 2]; 10],
@@ -108,73 +110,143 @@ fn fill_unit(
     offsets: &mut [u32],
 ) -> UnitDone
     requires { ⌜ RowsScanned (now ws) start i (now advances) (now gaps) (now offsets) × (0 < i) ⌝ }
-    requires { ⌜ SideFrom (now ws) i (sideOf next) × Laid (now classes) (now spacing) (now words) ⌝ }
-    ensures { λ r. ⌜ UnitFilled (now (ws .entry)) start i (now (advances .entry)) (now (gaps .entry))
-        (now (offsets .entry)) (now (advances .exit)) (now (gaps .exit)) (now (offsets .exit)) r ⌝ }
+    requires { ⌜ ColumnFrom (now ws) i column × Laid (now classes) (now spacing) (now words) ⌝ }
+    ensures { λ r. ⌜ Filled (now (ws .entry)) start i (now (advances .entry)) (now (gaps .entry))
+        (now (offsets .entry)) (now (advances .exit)) (now (gaps .exit)) (now (offsets .exit))
+        (r .first) (r .column) ⌝ }
 {
+    let none = UnitDone {
+        first: i,
+        column: column,
+    };
     let last = i - 1;
     let r = record_at(ws, last);
-    if start < i {
-        if !record_ok(r, classes) {
-            return UnitDone {
-                first: i,
-                side: next,
-            };
-        }
-    }
-    let mut unit = UnitSums {
-        first: last,
-        base: r.advance,
-    };
-    let mut side = Side {
-        class: r.class,
-        size: r.size,
-        code: r.code,
-    };
     if r.group != 0 {
-        unit = unit_before(ws, i, start, classes);
-        if unit.first == i {
-            return UnitDone {
-                first: i,
-                side: next,
-            };
-        }
-        side = side_at(ws, unit.first);
+        return none;
     }
-    let joint = after_unit(side, i < ws.len() / 6, next, classes, spacing, words);
-    if r.group == 0 {
-        // most records: no group, so no ruby and no offset
-        put_row(
-            advances,
-            gaps,
-            offsets,
-            last,
-            2 * r.advance + joint.tied,
-            joint.gap,
-            0,
-        );
-    } else {
-        put_unit(
+    if start < i {
+        if !in_list(r.class, r.code) {
+            return none;
+        }
+        if !plain_ok(r, classes) {
+            return none;
+        }
+    }
+    let row = row_of(r.class, classes);
+    let joint = joint_after(ws, last, i, row, column, spacing, words);
+    put_row(
+        advances,
+        gaps,
+        offsets,
+        last,
+        2 * r.advance + joint.tied,
+        joint.gap,
+        0,
+    );
+    UnitDone {
+        first: last,
+        column: row,
+    }
+}
+
+// Fills rows before record `i` as far as records come that `fill_lone` takes, down to record `stop`. A loop of its own,
+// so that what groups need is kept out of it.
+fn fill_lones(
+    ws: &[u32],
+    start: usize,
+    stop: usize,
+    end: usize,
+    next: usize,
+    classes: &[u8; 28],
+    spacing: &[[Entry; 18]; 18],
+    words: &[[u64; 2]; 10],
+    advances: &mut [u32],
+    gaps: &mut [u64],
+    offsets: &mut [u32],
+) -> UnitDone
+    requires { ⌜ RowsScanned (now ws) start end (now advances) (now gaps) (now offsets) ⌝ }
+    requires { ⌜ ColumnFrom (now ws) end next × Laid (now classes) (now spacing) (now words) ⌝ }
+    ensures { λ r. ⌜ Filled (now (ws .entry)) start end (now (advances .entry)) (now (gaps .entry))
+        (now (offsets .entry)) (now (advances .exit)) (now (gaps .exit)) (now (offsets .exit))
+        (r .first) (r .column) ⌝ }
+{
+    let mut i = end;
+    let mut column = next;
+    while stop < i {
+        let unit = fill_lone(
             ws,
-            unit.first,
+            start,
             i,
-            unit.base,
-            joint.gap,
-            joint.tied,
+            column,
+            classes,
+            spacing,
+            words,
             advances,
             gaps,
             offsets,
         );
+        if unit.first == i {
+            return unit;
+        }
+        i = unit.first;
+        column = unit.column;
     }
     UnitDone {
+        first: i,
+        column: column,
+    }
+}
+
+// Fills the rows of the unit that ends before record `i`, and gives its first record and its column; or gives `i`,
+// where answer 8, 12 or 9 applies to one of its records.
+fn fill_unit(
+    ws: &[u32],
+    start: usize,
+    i: usize,
+    column: usize,
+    classes: &[u8; 28],
+    spacing: &[[Entry; 18]; 18],
+    words: &[[u64; 2]; 10],
+    advances: &mut [u32],
+    gaps: &mut [u64],
+    offsets: &mut [u32],
+) -> UnitDone
+    requires { ⌜ RowsScanned (now ws) start i (now advances) (now gaps) (now offsets) × (0 < i) ⌝ }
+    requires { ⌜ ColumnFrom (now ws) i column × Laid (now classes) (now spacing) (now words) ⌝ }
+    ensures { λ r. ⌜ UnitFilled (now (ws .entry)) start i (now (advances .entry)) (now (gaps .entry))
+        (now (offsets .entry)) (now (advances .exit)) (now (gaps .exit)) (now (offsets .exit))
+        (r .first) (r .column) ⌝ }
+{
+    let unit = unit_before(ws, i, start, classes);
+    if unit.first == i {
+        return UnitDone {
+            first: i,
+            column: column,
+        };
+    }
+    let side = side_at(ws, unit.first);
+    let row = row_of(side.class, classes);
+    let joint = joint_after(ws, unit.first, i, row, column, spacing, words);
+    put_unit(
+        ws,
+        unit.first,
+        i,
+        unit.base,
+        joint.gap,
+        joint.tied,
+        advances,
+        gaps,
+        offsets,
+    );
+    UnitDone {
         first: unit.first,
-        side: side,
+        column: row,
     }
 }
 
 // Fills the rows before record `end`, from there on filled already, down to the unit that record `stop` is in, and
-// says whether answers 8 and 9 apply to none of their records. Records before `start` are known to keep their own
-// rules.
+// says whether answers 8, 12 and 9 apply to none of their records. Records before `start` are known to keep their own
+// rules and to be listed.
 pub(crate) fn fill_rows(
     ws: &[u32],
     start: usize,
@@ -197,21 +269,14 @@ pub(crate) fn fill_rows(
     let row_gaps = &mut gaps[..];
     let row_offsets = &mut offsets[..];
     let mut i = end;
-    let mut next = if end < ws.len() / 6 {
-        side_at(ws, end)
-    } else {
-        Side {
-            class: 0,
-            size: 0,
-            code: 0,
-        }
-    };
+    let mut column = column_at(ws, end, &classes);
     while stop < i {
-        let unit = fill_unit(
+        let lones = fill_lones(
             ws,
-            i,
-            next,
             start,
+            stop,
+            i,
+            column,
             &classes,
             &spacing,
             &words,
@@ -219,11 +284,27 @@ pub(crate) fn fill_rows(
             row_gaps,
             row_offsets,
         );
-        if unit.first == i {
-            return false;
+        i = lones.first;
+        column = lones.column;
+        if stop < i {
+            let unit = fill_unit(
+                ws,
+                start,
+                i,
+                column,
+                &classes,
+                &spacing,
+                &words,
+                row_advances,
+                row_gaps,
+                row_offsets,
+            );
+            if unit.first == i {
+                return false;
+            }
+            i = unit.first;
+            column = unit.column;
         }
-        i = unit.first;
-        next = unit.side;
     }
     true
 }

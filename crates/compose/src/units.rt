@@ -1,20 +1,22 @@
-// The units of a paragraph, from its end: the one that ends before a record, judged by answers 8 and 9, and what
+// The units of a paragraph, from its end: the one that ends before a record, judged by answers 8, 12 and 9, and what
 // stands after it.
 ghost use mathlib.Core.Path.{_≡_};
-ghost use mathlib.Core.Bool.{true};
 ghost use Prim.Native.Nat.{_<_};
 ghost use Rattle.rules.specs.Records.{recAt};
 ghost use Rattle.rules.specs.Sides.{sideBy};
-ghost use Rattle.rules.specs.Values.{sideOf, classTable, SideOk, Laid};
+ghost use Rattle.rules.specs.Spacing.{spacingTable};
+ghost use Rattle.rules.specs.Packed.{entryWords};
+ghost use Rattle.rules.specs.Values.{sideOf, classTable, SideOk};
 ghost use Rattle.compose.specs.Paragraph.{size};
-ghost use Rattle.compose.specs.Scan.{Scanning, UnitBefore, AfterUnit};
+ghost use Rattle.compose.specs.Scan.{Scanning, UnitBefore, ColumnFrom, JointDue, JointAfter};
+use crate::checks::is_fine;
 use crate::checks::record_at;
 use crate::checks::same_group;
 use rules::Entry;
+use rules::Joint;
 use rules::Side;
-use rules::break_forbidden;
-use rules::gap_between;
-use rules::record_ok;
+use rules::joint_between;
+use rules::row_of;
 
 // A unit by its first record and its base total.
 pub(crate) struct UnitSums {
@@ -22,14 +24,8 @@ pub(crate) struct UnitSums {
     pub base: u32,
 }
 
-// What stands after a unit: the gap in one word, and 1 where the break is forbidden, else 0.
-pub(crate) struct Joint {
-    pub gap: u64,
-    pub tied: u32,
-}
-
-// The unit that ends before record `i`; or `i` itself as its first record, where answer 8 or 9 applies to one of its
-// records. Records before `start` are known to keep their own rules.
+// The unit that ends before record `i`; or `i` itself as its first record, where answer 8, 12 or 9 applies to one of
+// its records. Records before `start` are known to keep their own rules and to be listed.
 pub(crate) fn unit_before(ws: &[u32], i: usize, start: usize, classes: &[u8; 28]) -> UnitSums
     requires { ⌜ Scanning (now ws) start i × (0 < i) × (now classes ≡ classTable) ⌝ }
     ensures { λ r. ⌜ UnitBefore (now (ws .entry)) start i r ⌝ }
@@ -40,7 +36,7 @@ pub(crate) fn unit_before(ws: &[u32], i: usize, start: usize, classes: &[u8; 28]
     loop {
         let r = record_at(ws, first - 1);
         if start < first {
-            if !record_ok(r, classes) {
+            if !is_fine(r, classes) {
                 return none;
             }
         }
@@ -82,26 +78,43 @@ pub(crate) fn side_at(ws: &[u32], i: usize) -> Side
     }
 }
 
-// What stands after the unit of side `l`: the gap to the next unit, of side `r`, and whether the break is forbidden;
-// or nothing, where no unit follows. The last three are the tables that a gap is looked up in.
-pub(crate) fn after_unit(
-    l: Side,
-    more: bool,
-    r: Side,
-    classes: &[u8; 28],
+// The column of the unit that starts with record `i` in the spacing table; 0 where there is none.
+pub(crate) fn column_at(ws: &[u32], i: usize, classes: &[u8; 28]) -> usize
+    requires { ⌜ (i < size (now ws) → SideOk (sideBy (recAt (now ws) i))) × (now classes ≡ classTable) ⌝ }
+    ensures { λ c. ⌜ ColumnFrom (now (ws .entry)) i c ⌝ }
+{
+    if ws.len() / 6 <= i {
+        return 0;
+    }
+    let side = side_at(ws, i);
+    row_of(side.class, classes)
+}
+
+// What stands between the unit that starts with record `first`, of row `row`, and the one that starts with record `i`,
+// of column `column`; nothing, where no unit follows. The last two are the tables that a gap is looked up in.
+pub(crate) fn joint_after(
+    ws: &[u32],
+    first: usize,
+    i: usize,
+    row: usize,
+    column: usize,
     spacing: &[[Entry; 18]; 18],
     words: &[[u64; 2]; 10],
 ) -> Joint
-    requires { ⌜ SideOk (sideOf l) × (more ≡ true → SideOk (sideOf r)) ⌝ }
-    requires { ⌜ Laid (now classes) (now spacing) (now words) ⌝ }
-    ensures { λ j. ⌜ AfterUnit (sideOf l) more (sideOf r) j ⌝ }
+    requires { ⌜ JointDue (now ws) first i row column ⌝ }
+    requires { ⌜ (now spacing ≡ spacingTable) × (now words ≡ entryWords) ⌝ }
+    ensures { λ j. ⌜ JointAfter (now (ws .entry)) first i j ⌝ }
 {
-    if !more {
-        return Joint { gap: 0, tied: 0 };
-    }
-    let tied = break_forbidden(l, r);
-    Joint {
-        gap: gap_between(l, r, tied, classes, spacing, words),
-        tied: if tied { 1 } else { 0 },
+    if i < ws.len() / 6 {
+        joint_between(
+            side_at(ws, first),
+            side_at(ws, i),
+            row,
+            column,
+            spacing,
+            words,
+        )
+    } else {
+        Joint { gap: 0, tied: 0 }
     }
 }

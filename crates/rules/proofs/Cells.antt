@@ -1,7 +1,8 @@
 -- The spacing table: that the entry of each cell agrees with the rules is computed over all 324 cells, and turned into
 -- the rule at each pair of classes. Assumes nothing.
 use mathlib.Core.Path.{_≡_, refl, ap, sym, _∙_}
-use Prim.Native.Nat.{ℕ, zero, suc, _<_}
+use Prim.Native.Nat.{ℕ, zero, suc, _%_, _<_}
+use native.Mathlib.Omega.{arith}
 use mathlib.Core.Bool.{Bool, true, _&&_, and-eq-true-iff}
 use mathlib.Core.List.{[], map}
 use mathlib.Core.Logic.{inl, inr}
@@ -13,10 +14,10 @@ use Rattle.rules.specs.Space.{Fraction, no-part, eighth, quarter, half, 
 use Rattle.rules.specs.Space.{ruleOf, spaceOf}
 use Rattle.rules.specs.Gaps.{Flexibility, early, late, rigid, flexibility, gapBy}
 use Rattle.rules.specs.Spacing.{Entry, solid, named, gapSet, eighths, stage, sameSpace, agrees, cellOf}
-use Rattle.rules.specs.Spacing.{spacingTable, cellIn}
+use Rattle.rules.specs.Spacing.{jointCell, spacingTable, jointIn, cellIn}
 use Rattle.rules.specs.Computed.{computed}
 use Rattle.rules.proofs.Facts.{tested}
-use Rattle.rules.proofs.Table.{allOf, all-at, map-at}
+use Rattle.rules.proofs.Table.{allPairs, pairs-at, map-at}
 
 -- the test -----------------------------------------------------------------------------------------------------------
 
@@ -24,7 +25,7 @@ use Rattle.rules.proofs.Table.{allOf, all-at, map-at}
 abbrev right : ℕ → ℕ → Bool
 right L R = ltb (cellOf L R) 10 && agrees (named (cellOf L R)) L R
 
-cells-agree : allOf (λ L. allOf (λ R. right L R) classes) classes ≡ true
+cells-agree : allPairs right classes ≡ true
 unfolding computed
 cells-agree = refl
 
@@ -98,17 +99,21 @@ agrees-gap e L R h l r w =
 module _ (L R : ℕ) (l : classOk L ≡ true) (r : classOk R ≡ true) where
   right-at : right L R ≡ true
   unfolding classOk
-  right-at = all-at (λ S. right L S) classes (all-at (λ K. allOf (λ S. right K S) classes) classes cells-agree L l) R r
+  right-at = pairs-at right classes cells-agree L R l r
 
   pub cell-small : cellOf L R < 10
   cell-small = ltb-true (cellOf L R) 10 (and-eq-true-iff (ltb (cellOf L R) 10) _ .0 right-at .0)
 
-  -- the table's cell, and the gap that its entry sets
-  pub cell-at : cellIn spacingTable L R ≡ cellOf L R
+  -- the table's cell, the number of the entry in it, and the gap that this sets
+  pub cell-at : jointIn spacingTable L R ≡ jointCell L R
   unfolding classOk spacingTable rowOf
   cell-at =
-      ap (λ ks. getD ks (placeIn R classes) 0) (map-at (λ K. map (λ S. cellOf K S) classes) [] classes L l)
-      ∙ map-at (λ S. cellOf L S) 0 classes R r
+      ap (λ ks. getD ks (placeIn R classes) 0) (map-at (λ K. map (λ S. jointCell K S) classes) [] classes L l)
+      ∙ map-at (λ S. jointCell L S) 0 classes R r
+
+  pub cell-entry : jointCell L R % 16 ≡ cellOf L R
+  unfolding jointCell
+  cell-entry = omega (arith, cell-small)
 
   pub cell-agrees : agrees (named (cellOf L R)) L R ≡ true
   cell-agrees = and-eq-true-iff (ltb (cellOf L R) 10) _ .0 right-at .1
@@ -119,4 +124,4 @@ module _ (L R : ℕ) (l : classOk L ≡ true) (r : classOk R ≡ true) where
 
   pub table-gap : (a b w : ℕ) →
       gapSet (named (cellIn spacingTable L R)) a b w ≡ gapBy (flexibility (ruleOf L R) L) (spaceOf L R) a b w
-  table-gap a b w = rw cell-at (cell-gap a b w)
+  table-gap a b w = rw (cell-at, cell-entry) (cell-gap a b w)

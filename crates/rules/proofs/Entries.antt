@@ -9,7 +9,7 @@ use lib.ListN.{length, getD}
 use Rattle.rules.specs.Space.{Fraction, no-part, eighth, quarter, half, part, measured}
 use Rattle.rules.specs.Gaps.{Flexibility, early, late, rigid, gapBy}
 use Rattle.rules.specs.Spacing.{Entry, entry, solid, entries, named, gapSet}
-use Rattle.rules.specs.Packed.{packed, Packs, AtMost, leftWord, rightWord, entryWords, weighing}
+use Rattle.rules.specs.Packed.{packed, Packs, AtMost, leftWord, rightWord, entryWords, weighing, Taken}
 
 -- the entry's gap between sizes of a and b eighths, with weight w
 pub record EntryLaw (e : Entry) : Type 0 where
@@ -155,3 +155,8 @@ words-from (e ∷ es) (suc n) h = words-from es n (omega arith)
 pub words-at : (n : ℕ) → n < 10 → getD entryWords n [] ≡ leftWord (named n) ∷ rightWord (named n) ∷ []
 unfolding entryWords entries
 words-at n h = words-from entries n h
+
+-- the first entry takes nothing
+pub solid-taken : (n left right : ℕ) → n ≡ 0 → Taken n left right 0
+unfolding entries packed gapBy measured
+solid-taken n left right z = rw z (record { word = omega arith; small = omega arith })

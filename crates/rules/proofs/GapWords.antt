@@ -1,21 +1,21 @@
 -- The gap between two sides as a word: the entry's words, taken for each eighth of a size, and the weight. Assumes
 -- nothing.
 use mathlib.Core.Path.{_≡_, ap, sym, _∙_}
-use Prim.Native.Nat.{ℕ, _+_, _*_, _/_}
+use Prim.Native.Nat.{ℕ, _+_, _*_, _/_, _%_}
 use native.Mathlib.Omega.{arith}
 use mathlib.Core.Bool.{false}
 use lib.Dec.{eqb}
-use Rattle.rules.specs.Space.{measured}
-use Rattle.rules.specs.Sides.{Side}
-use Rattle.rules.specs.Gaps.{Gap, gapBy, weight, gapOf}
-use Rattle.rules.specs.Spacing.{entries, named, gapSet, cellOf}
-use Rattle.rules.specs.Packed.{packed, unpacked, Packs, AtMost, leftWord, rightWord, weighing}
+use Rattle.rules.specs.Sides.{Side, forbidden}
+use Rattle.rules.specs.Gaps.{Gap, weight, gapOf}
+use Rattle.rules.specs.Spacing.{entries, named, gapSet, cellOf, jointCell}
+use Rattle.rules.specs.Packed.{packed, unpacked, Packs, AtMost, weighing, Taken}
 use Rattle.rules.specs.Values.{SideOk}
 use Rattle.rules.proofs.Packed.{at-most-255, unpacked-packed}
-use Rattle.rules.proofs.Cells.{cell-small, cell-gap, cell-agrees}
-use Rattle.rules.proofs.Entries.{EntryLaw, entry-law}
+use Rattle.rules.proofs.Cells.{cell-small, cell-entry, cell-gap, cell-agrees}
+use Rattle.rules.proofs.Entries.{EntryLaw, entry-law, solid-taken}
 use Rattle.rules.proofs.Bounds.{size-bounds}
-use Rattle.rules.proofs.Weights.{weight-most, solid-after}
+use Rattle.rules.proofs.Weights.{weight-free, weight-most, solid-after}
+use Rattle.rules.proofs.Ties.{forbidden-told}
 
 -- a word holds the gap, and 254 like it
 pub record GapBounds (g : Gap) : Type 0 where
@@ -53,29 +53,28 @@ module _ (L R : Side) (l : SideOk L) (r : SideOk R) where
   pub gap-bounds : GapBounds (gapOf L R)
   gap-bounds = record { packs = gap-packs; at-most = gap-at-most }
 
-  pub gap-word :
-      unpacked
-      (L .size / 8 * leftWord (named (cell L R)) + R .size / 8 * rightWord (named (cell L R))
-      + weighing (weight L R))
-      ≡ gapOf L R
-  gap-word =
-      ap unpacked (sym (law .word (L .size / 8) (R .size / 8) (weight L R)) ∙ ap packed (sym in-eighths))
+  -- what the cell's entry takes, and the weight
+  pub gap-taken : {w : ℕ} → Taken (cell L R) (L .size) (R .size) w →
+      unpacked (w + weighing (weight L R)) ≡ gapOf L R
+  gap-taken t =
+      ap (λ w. unpacked (w + weighing (weight L R))) (t .word)
+      ∙ ap unpacked (sym (law .word (L .size / 8) (R .size / 8) (weight L R)) ∙ ap packed (sym in-eighths))
       ∙ unpacked-packed (gapOf L R) gap-packs (at-most-255 gap-at-most (omega arith))
 
-  -- a solid gap is its weight, and class 5 is not on its left
-  module _ (z : cell L R ≡ 0) where
-    pub solid-no-dot : eqb (L .class) 5 ≡ false
-    unfolding entries
-    solid-no-dot =
-        solid-after (L .class) (R .class)
-        (rw z at (cell-agrees (L .class) (R .class) (l .class) (r .class)))
+  -- where the table has 0, nothing stands, the break is permitted and class 5 is not on the left
+  module _ (z : jointCell (L .class) (R .class) ≡ 0) where
+    no-entry : cell L R ≡ 0
+    no-entry = sym (cell-entry (L .class) (R .class) (l .class) (r .class)) ∙ ap (λ n. n % 16) z
 
-    pub solid-word : unpacked (weighing (weight L R)) ≡ gapOf L R
-    unfolding entries packed gapBy measured
+    pub no-tie : forbidden L R ≡ false
+    no-tie = rw z at (forbidden-told L R (l .class) (r .class))
+
+    no-dot : eqb (L .class) 5 ≡ false
+    unfolding entries
+    no-dot =
+        solid-after (L .class) (R .class)
+        (rw no-entry at (cell-agrees (L .class) (R .class) (l .class) (r .class)))
+
+    pub solid-word : unpacked (weighing 1) ≡ gapOf L R
     solid-word =
-        let x = weighing (weight L R) in
-        let left : leftWord (named (cell L R)) ≡ 0 = ap (λ k. leftWord (named k)) z in
-        let right : rightWord (named (cell L R)) ≡ 0 = ap (λ k. rightWord (named k)) z in
-        let e : L .size / 8 * leftWord (named (cell L R)) + R .size / 8 * rightWord (named (cell L R)) + x ≡ x =
-        rw (left, right) (omega arith) in
-        ap unpacked (sym e) ∙ gap-word
+        rw (weight-free L R no-tie no-dot) at (gap-taken (solid-taken (cell L R) (L .size) (R .size) no-entry))

@@ -36,6 +36,14 @@ all-at t (k ∷ ks) h c e =
       | inr q ↦ all-at t ks (both .1) c (rw q at e)
     ]
 
+-- and of each two of its numbers
+abbrev pub allPairs : (ℕ → ℕ → Bool) → List ℕ → Bool
+allPairs t ks = allOf (λ k. allOf (λ j. t k j) ks) ks
+
+pub pairs-at : (t : ℕ → ℕ → Bool) (ks : List ℕ) → allPairs t ks ≡ true → (c d : ℕ) → isIn c ks ≡ true →
+    isIn d ks ≡ true → t c d ≡ true
+pairs-at t ks h c d e f = all-at (λ j. t c j) ks (all-at (λ k. allOf (λ j. t k j) ks) ks h c e) d f
+
 -- what a definition has for a number of a list stands at the number's place
 pub map-at : {A : Type 0} (g : ℕ → A) (d : A) (ks : List ℕ) (c : ℕ) → isIn c ks ≡ true →
     getD (map g ks) (placeIn c ks) d ≡ g c

@@ -18,7 +18,7 @@ use Rattle.rules.specs.Sheet.{placesOf, placeWords, lineWords, slotWords
 use Rattle.rules.specs.Refusals.{judged, sound, splice, linesRedone, slotRows, editSlot, callRows, called}
 use Rattle.rules.specs.Refusals.{onSlot, edit, readRows, readNumber, readStart, readLength, readWords}
 use Rattle.rules.specs.Refusals.{badSlot, freshSlots, setUpRows, setUpAnswer, setUp}
-use Rattle.rules.specs.Spacing.{entries, agrees, cellOf, spacingTable}
+use Rattle.rules.specs.Spacing.{entries, agrees, cellOf, tieOf, jointCell, spacingTable}
 use Rattle.rules.specs.Packed.{packed, unpacked, entryWords}
 
 unfoldable pub computed : Unit {0}
@@ -29,5 +29,6 @@ unfolding lists inList joined cut firstFailing zeros codeOk classes classOk rowO
     totals unitAdvances amounts amountsOf placed ending kindOf lineOf linesOf compose placesOf placeWords
     lineWords slotWords judged sound splice slotRows editSlot starts holding editLine firstLine resumed report
     linesRedone callRows called onSlot edit readRows readNumber readStart readLength readWords badSlot
-    freshSlots setUpRows setUpAnswer setUp entries agrees cellOf spacingTable packed unpacked entryWords
+    freshSlots setUpRows setUpAnswer setUp entries agrees cellOf tieOf jointCell spacingTable packed unpacked
+    entryWords
 computed = tt

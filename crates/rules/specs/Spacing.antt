@@ -4,17 +4,21 @@
 --                after, 後ろ
 --   entry        what a cell names: the fractions of the left and of the right size that the space is, and how the gap
 --                gives way
---   cell         an entry's number, from 0
+--   tie          what two classes say of the break between them, as a number
+--   cell         an entry's number, from 0; with 16 times the tie, the joint cell, which stands in the table
 --
--- Rules a to k stay the definition: a cell has the first of the ten entries that agrees with them. No cell is without
--- one: `cells-agree` of proofs/Cells.antt is computed over all 324. Assumes nothing.
-use Prim.Native.Nat.{ℕ, suc}
+-- Rules a to k and `forbidden` stay the definitions: a cell has the first of the ten entries that agrees with the
+-- rules, and what `forbidden` says. That no cell is without an entry, and that with the code points it tells the
+-- break, is computed over all 324: `cells-agree` of proofs/Cells.antt, `ties-agree` of proofs/Ties.antt. Assumes
+-- nothing.
+use Prim.Native.Nat.{ℕ, suc, _+_, _*_, _%_}
 use mathlib.Core.Bool.{Bool, cond, _&&_, _||_}
 use mathlib.Core.List.{List, [], _∷_, map}
 use lib.Dec.{eqb}
 use lib.ListN.{getD}
 use Rattle.rules.specs.Records.{classes, rowOf}
 use Rattle.rules.specs.Space.{Fraction, no-part, eighth, quarter, half, Space, spaced, ruleOf, spaceOf}
+use Rattle.rules.specs.Sides.{forbidden}
 use Rattle.rules.specs.Gaps.{Flexibility, early, late, rigid, flexibility, Gap, gapBy}
 
 pub record Entry : Type 0 where
@@ -82,10 +86,26 @@ unfoldable pub cellOf : ℕ → ℕ → ℕ
 unfolding entries
 cellOf L R = firstAgreeing entries L R
 
+-- whether the break is forbidden between two sides of these classes and code points
+abbrev pub forbiddenAt : ℕ → ℕ → ℕ → ℕ → Bool
+forbiddenAt L R c d =
+    forbidden (record { class = L; size = 8; code = c }) (record { class = R; size = 8; code = d })
+
+-- 1: forbidden whatever the code points, so even between two that differ and are no digits. 2: they decide, so it is
+-- forbidden between two equal digits only. 0: permitted even there
+unfoldable pub tieOf : ℕ → ℕ → ℕ
+tieOf L R = cond (forbiddenAt L R 0 1) 1 (cond (forbiddenAt L R 0x30 0x30) 2 0)
+
+unfoldable pub jointCell : ℕ → ℕ → ℕ
+jointCell L R = cellOf L R + 16 * tieOf L R
+
 unfoldable pub spacingTable : List (List ℕ)
 unfolding classes
-spacingTable = map (λ L. map (λ R. cellOf L R) classes) classes
+spacingTable = map (λ L. map (λ R. jointCell L R) classes) classes
 
--- the cell that a table has for two classes
+-- the joint cell that a table has for two classes, and the number of the entry in it
+abbrev pub jointIn : List (List ℕ) → ℕ → ℕ → ℕ
+jointIn t L R = getD (getD t (rowOf L) []) (rowOf R) 0
+
 abbrev pub cellIn : List (List ℕ) → ℕ → ℕ → ℕ
-cellIn t L R = getD (getD t (rowOf L) []) (rowOf R) 0
+cellIn t L R = jointIn t L R % 16

@@ -19,7 +19,7 @@ pub fn over(a: u32, b: u32) -> u32
 }
 
 // `x` is one of the others.
-pub(crate) fn one_of2(x: u32, a: u32, b: u32) -> bool
+fn one_of2(x: u32, a: u32, b: u32) -> bool
     ensures { λ t. ⌜ t ≡ isIn x (a ∷ b ∷ []) ⌝ }
 {
     (x == a) | (x == b)

@@ -1,9 +1,11 @@
 // "Breaks and adjustment": forbidden breaks.
 ghost use mathlib.Core.Path.{_≡_};
+ghost use mathlib.Core.Bool.{true};
+ghost use Rattle.rules.specs.Records.{classOk};
 ghost use Rattle.rules.specs.Sides.{arabicDigit, forbidden};
+ghost use Rattle.rules.specs.Spacing.{jointCell};
 ghost use Rattle.rules.specs.Values.{sideOf};
 use crate::basics::between;
-use crate::basics::one_of2;
 use crate::groups::Side;
 
 // 0 to 9.
@@ -13,24 +15,21 @@ fn arabic_digit(code: u32) -> bool
     between(0x30, 0x39, code)
 }
 
-// A line may not be broken between the two. The class on the right decides most often, so it is asked first.
-pub fn break_forbidden(l: Side, r: Side) -> bool
+// A line may not be broken between the two. `cell` is the spacing table's for their classes.
+pub(crate) fn tied_by(cell: u32, l: Side, r: Side) -> bool
+    requires { ⌜ (classOk (l .class) ≡ true) × (classOk (r .class) ≡ true) ⌝ }
+    requires { ⌜ cell ≡ jointCell (l .class) (r .class) ⌝ }
     ensures { λ b. ⌜ b ≡ forbidden (sideOf l) (sideOf r) ⌝ }
 {
-    let left = l.class;
-    let right = r.class;
-    // 2 to 7, 9, 10 and 11
-    if between(2, 11, right) {
-        if right != 8 {
-            return true;
-        }
-        if left == 8 {
-            return l.code == r.code;
-        }
+    if cell < 16 {
+        return false;
     }
-    // 5% and 25℃ stay together, a% need not
-    if left == 27 {
-        return (right == 27) | (arabic_digit(l.code) & (right == 13));
+    if cell < 32 {
+        return true;
     }
-    one_of2(left, 1, 12)
+    // the code points decide: two dashes of class 8, or a digit before class 13, as 5% and 25℃ stay together
+    if l.class == 8 {
+        return l.code == r.code;
+    }
+    arabic_digit(l.code)
 }

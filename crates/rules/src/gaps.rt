@@ -1,14 +1,18 @@
 // "Breaks and adjustment": gaps with what they give and take, each in one word.
 ghost use mathlib.Core.Path.{_≡_};
+ghost use mathlib.Core.Bool.{cond};
 ghost use Prim.Native.Nat.{_+_, _*_, _/_, _<_, _≤_};
+ghost use Rattle.rules.specs.Records.{rowOf};
 ghost use Rattle.rules.specs.Sides.{forbidden};
 ghost use Rattle.rules.specs.Gaps.{gapOf};
 ghost use Rattle.rules.specs.Adjustment.{plus};
+ghost use Rattle.rules.specs.Spacing.{spacingTable};
 ghost use Rattle.rules.specs.Packed.{leastIn, unpacked, AtMost, entryWords, Taken};
-ghost use Rattle.rules.specs.Values.{sideOf, gapFrom, SideOk, Laid};
+ghost use Rattle.rules.specs.Values.{sideOf, gapFrom, SideOk};
+use crate::breaks::tied_by;
 use crate::groups::Side;
+use crate::records::wide;
 use crate::spacing::Entry;
-use crate::spacing::cell_between;
 
 // The space between two units, and its capacity at each stage of adjustment.
 pub struct Gap {
@@ -17,6 +21,12 @@ pub struct Gap {
     pub shrink2: u32,
     pub stretch1: u32,
     pub stretch2: u32,
+}
+
+// What stands between two units: the gap in one word, and 1 where the break is forbidden, else 0.
+pub struct Joint {
+    pub gap: u64,
+    pub tied: u32,
 }
 
 // A gap in one word: its least, then what shrink stage 1 and shrink stage 2 take, then its weight at stretch stage 2.
@@ -73,41 +83,50 @@ fn taken(entry: usize, left: u32, right: u32, words: &[[u64; 2]; 10]) -> u64
     requires { ⌜ (entry < 10) × (left ≤ 4000) × (right ≤ 4000) × (now words ≡ entryWords) ⌝ }
     ensures { λ w. ⌜ Taken entry left right w ⌝ }
 {
+    // nothing, as at most forbidden breaks: no product to make
+    if entry == 0 {
+        return 0;
+    }
     times(left, words[entry][0]) + times(right, words[entry][1])
 }
 
-// The gap between two units in one word. `tied` where the break there is forbidden, which the caller asks for itself
-// too; the tables are lent.
-pub fn gap_between(
+// The joint between two units. The caller has the row of the left class and the column of the right one, and lends the
+// tables.
+pub fn joint_between(
     l: Side,
     r: Side,
-    tied: bool,
-    classes: &[u8; 28],
+    row: usize,
+    column: usize,
     spacing: &[[Entry; 18]; 18],
     words: &[[u64; 2]; 10],
-) -> u64
-    requires { ⌜ tied ≡ forbidden (sideOf l) (sideOf r) ⌝ }
+) -> Joint
     requires { ⌜ SideOk (sideOf l) × SideOk (sideOf r) ⌝ }
-    requires { ⌜ Laid (now classes) (now spacing) (now words) ⌝ }
-    ensures { λ w. ⌜ unpacked w ≡ gapOf (sideOf l) (sideOf r) ⌝ }
+    requires { ⌜ (row ≡ rowOf (l .class)) × (column ≡ rowOf (r .class)) ⌝ }
+    requires { ⌜ (now spacing ≡ spacingTable) × (now words ≡ entryWords) ⌝ }
+    ensures { λ j. ⌜ (unpacked (j .gap) ≡ gapOf (sideOf l) (sideOf r))
+        × (j .tied ≡ cond (forbidden (sideOf l) (sideOf r)) 1 0) ⌝ }
 {
-    let entry = cell_between(l.class, r.class, classes, spacing);
-    // most gaps: nothing, and class 5 on neither side
-    if entry == 0 {
-        if tied {
-            return 0;
-        }
-        return WEIGHT;
+    let cell = wide(spacing[row][column]);
+    // most gaps: nothing, the break permitted, and class 5 on neither side
+    if cell == 0 {
+        return Joint {
+            gap: WEIGHT,
+            tied: 0,
+        };
     }
-    let gap = taken(entry, l.size, r.size, words);
+    let tied = tied_by(cell, l, r);
+    let gap = taken((cell % 16) as usize, l.size, r.size, words);
     if tied {
-        return gap;
+        return Joint { gap: gap, tied: 1 };
     }
     // no weight beside class 5; before it every break is forbidden
     if l.class == 5 {
-        return gap;
+        return Joint { gap: gap, tied: 0 };
     }
-    gap + WEIGHT
+    Joint {
+        gap: gap + WEIGHT,
+        tied: 0,
+    }
 }
 
 // The least that a gap can be.

@@ -1,6 +1,8 @@
 // "Records and groups": a record and its own rules.
 ghost use mathlib.Core.Path.{_≡_};
-ghost use Rattle.rules.specs.Records.{codeOk, sizeOk, advanceFits, groupOk, recOk};
+ghost use mathlib.Core.Bool.{true};
+ghost use Rattle.rules.specs.Records.{codeOk, classOk, sizeOk, advanceKind, advanceFits, groupOk, recOk};
+ghost use Rattle.rules.specs.Listed.{isListed};
 ghost use Rattle.rules.specs.Values.{recordOf, kindNumbered, classTable, Classed};
 use crate::basics::between;
 use crate::basics::one_of3;
@@ -163,4 +165,27 @@ pub fn record_ok(r: Record, classes: &[u8; 28]) -> bool
         return false;
     }
     group_ok(r.class, r.group, r.ruby)
+}
+
+// The number of a class's kind of advance.
+fn kind_of(class: u32, classes: &[u8; 28]) -> u32
+    requires { ⌜ (classOk class ≡ true) × (now classes ≡ classTable) ⌝ }
+    ensures { λ k. ⌜ kindNumbered k ≡ advanceKind class ⌝ }
+{
+    wide(classes[class as usize]) % 4
+}
+
+// The same of a record of no group whose code point stands in its class's list. Code points of lists are in order, and
+// so are the classes that have one.
+pub fn plain_ok(r: Record, classes: &[u8; 28]) -> bool
+    requires { ⌜ (isListed (recordOf r) ≡ true) × (r .group ≡ 0) × (now classes ≡ classTable) ⌝ }
+    ensures { λ b. ⌜ b ≡ recOk (recordOf r) ⌝ }
+{
+    if !size_ok(r.size) {
+        return false;
+    }
+    if !advance_ok(kind_of(r.class, classes), r.size, r.advance) {
+        return false;
+    }
+    r.ruby == 0
 }

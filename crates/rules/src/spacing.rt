@@ -1,43 +1,64 @@
-// "Space between units" as a table, by document 02's request 02.
+// "Space between units" as a table, by document 02's request 02; with it where a break is forbidden.
 ghost use mathlib.Core.Path.{_≡_};
 ghost use mathlib.Core.Bool.{true};
 ghost use Prim.Native.Nat.{_<_};
 ghost use Rattle.rules.specs.Records.{rowOf, classOk};
-ghost use Rattle.rules.specs.Spacing.{cellOf, spacingTable};
+ghost use Rattle.rules.specs.Spacing.{spacingTable};
 ghost use Rattle.rules.specs.Values.{classTable};
 use crate::records::wide;
 
-// What a cell names, by its number.
+// A cell: the number of what stands between two classes, from 0 to 9, and what they say of the break there. So one
+// look tells both.
 pub type Entry = u8;
 
+// Added where the break is forbidden, and where the code points decide; nothing is added where it is permitted.
+const TIED: Entry = 16;
+
+const ASKED: Entry = 32;
+
 // The entries, by the letter of the rule that sets each and in source document 004's words: a half or a quarter
-// of the size before the gap, be, or after it, af.
-// Nothing, 無印: rules e and k, and f, g and h where they set 0.
+// of the size before the gap, be, or after it, af. Where one stands at forbidden breaks too, T is added to its name.
+// Nothing, 無印: rules e and k, and f, g and h where they set 0. T alone where the break is forbidden, Q where the code
+// points are asked.
 const O: Entry = 0;
 
-// 1/4 be + 1/4 af.
-const A: Entry = 1;
+const T: Entry = O + TIED;
+
+const Q: Entry = O + ASKED;
+
+// 1/4 be + 1/4 af. This and the next two stand before class 5, where every break is forbidden.
+const A: Entry = 1 + TIED;
 
 // 1/2 be + 1/4 af.
-const B: Entry = 2;
+const B: Entry = 2 + TIED;
 
 // 1/4 af.
-const C: Entry = 3;
+const C: Entry = 3 + TIED;
 
 // 1/4 be.
 const D: Entry = 4;
 
+const DT: Entry = D + TIED;
+
 // 1/2 be that shrinks at stage 1: rule f, and rule g after class 7.
 const F: Entry = 5;
+
+const FT: Entry = F + TIED;
 
 // 1/2 be: rule g after class 6.
 const G: Entry = 6;
 
+const GT: Entry = G + TIED;
+
 // 1/2 af that shrinks at stage 1.
 const H: Entry = 7;
 
+const HT: Entry = H + TIED;
+
 // 1/4 af that shrinks at stage 2 and stretches at stage 1.
 const I: Entry = 8;
+
+const IT: Entry = I + TIED;
 
 // 1/4 be that shrinks at stage 2 and stretches at stage 1.
 const J: Entry = 9;
@@ -45,24 +66,24 @@ const J: Entry = 9;
 // A row for each class before the gap, a column for each class after it.
 const SPACING: [[Entry; 18]; 18] = [
     // 1  2  3  4  5  6  7  8  9  10 11 12 13 14 15 16 19 27
-    [O, O, O, O, C, O, O, O, O, O, O, O, O, O, O, O, O, O], // 1
-    [F, O, F, F, C, O, O, F, F, F, F, F, F, O, F, F, F, F], // 2
-    [H, O, O, O, C, O, O, O, O, O, O, O, O, O, O, O, O, O], // 3
-    [H, O, O, O, C, O, O, O, O, O, O, O, O, O, O, O, O, J], // 4
-    [D, D, D, D, A, D, D, D, D, D, D, D, D, D, D, D, D, D], // 5
-    [G, O, G, G, B, O, O, G, G, G, G, G, G, G, G, G, G, G], // 6
-    [F, O, F, F, B, O, O, F, F, F, F, F, F, F, F, F, F, F], // 7
-    [H, O, O, O, C, O, O, O, O, O, O, O, O, O, O, O, O, O], // 8
-    [H, O, O, O, C, O, O, O, O, O, O, O, O, O, O, O, O, J], // 9
-    [H, O, O, O, C, O, O, O, O, O, O, O, O, O, O, O, O, J], // 10
-    [H, O, O, O, C, O, O, O, O, O, O, O, O, O, O, O, O, J], // 11
-    [H, O, O, O, C, O, O, O, O, O, O, O, O, O, O, O, O, O], // 12
-    [H, O, O, O, C, O, O, O, O, O, O, O, O, O, O, O, O, O], // 13
-    [O, O, O, O, C, O, O, O, O, O, O, O, O, O, O, O, O, O], // 14
-    [H, O, O, O, C, O, O, O, O, O, O, O, O, O, O, O, O, J], // 15
-    [H, O, O, O, C, O, O, O, O, O, O, O, O, O, O, O, O, J], // 16
-    [H, O, O, O, C, O, O, O, O, O, O, O, O, O, O, O, O, J], // 19
-    [H, O, O, O, C, O, O, O, I, I, I, O, O, O, I, I, I, O], // 27
+    [T, T, T, T, C, T, T, T, T, T, T, T, T, T, T, T, T, T], // 1
+    [F, T, FT, FT, C, T, T, F, FT, FT, FT, F, F, O, F, F, F, F], // 2
+    [H, T, T, T, C, T, T, O, T, T, T, O, O, O, O, O, O, O], // 3
+    [H, T, T, T, C, T, T, O, T, T, T, O, O, O, O, O, O, J], // 4
+    [D, DT, DT, DT, A, DT, DT, D, DT, DT, DT, D, D, D, D, D, D, D], // 5
+    [G, T, GT, GT, B, T, T, G, GT, GT, GT, G, G, G, G, G, G, G], // 6
+    [F, T, FT, FT, B, T, T, F, FT, FT, FT, F, F, F, F, F, F, F], // 7
+    [H, T, T, T, C, T, T, Q, T, T, T, O, O, O, O, O, O, O], // 8
+    [H, T, T, T, C, T, T, O, T, T, T, O, O, O, O, O, O, J], // 9
+    [H, T, T, T, C, T, T, O, T, T, T, O, O, O, O, O, O, J], // 10
+    [H, T, T, T, C, T, T, O, T, T, T, O, O, O, O, O, O, J], // 11
+    [HT, T, T, T, C, T, T, T, T, T, T, T, T, T, T, T, T, T], // 12
+    [H, T, T, T, C, T, T, O, T, T, T, O, O, O, O, O, O, O], // 13
+    [O, T, T, T, C, T, T, O, T, T, T, O, O, O, O, O, O, O], // 14
+    [H, T, T, T, C, T, T, O, T, T, T, O, O, O, O, O, O, J], // 15
+    [H, T, T, T, C, T, T, O, T, T, T, O, O, O, O, O, O, J], // 16
+    [H, T, T, T, C, T, T, O, T, T, T, O, O, O, O, O, O, J], // 19
+    [H, T, T, T, C, T, T, O, IT, IT, IT, O, Q, O, I, I, I, T], // 27
 ];
 
 // The table, for a caller to lay down once and lend to each lookup.
@@ -72,26 +93,10 @@ pub fn spacing_table() -> [[Entry; 18]; 18]
     SPACING
 }
 
-// A class's row, by the class table.
-fn row_of(class: u32, classes: &[u8; 28]) -> usize
+// A class's row, which is its column too, by the class table.
+pub fn row_of(class: u32, classes: &[u8; 28]) -> usize
     requires { ⌜ (classOk class ≡ true) × (now classes ≡ classTable) ⌝ }
     ensures { λ i. ⌜ (i ≡ rowOf class) × (i < 18) ⌝ }
 {
     (wide(classes[class as usize]) / 4) as usize
-}
-
-// The number of the entry between two classes.
-pub(crate) fn cell_between(
-    left: u32,
-    right: u32,
-    classes: &[u8; 28],
-    spacing: &[[Entry; 18]; 18],
-) -> usize
-    requires { ⌜ (classOk left ≡ true) × (classOk right ≡ true) ⌝ }
-    requires { ⌜ (now classes ≡ classTable) × (now spacing ≡ spacingTable) ⌝ }
-    ensures { λ n. ⌜ n ≡ cellOf left right ⌝ }
-{
-    let row = row_of(left, classes);
-    let column = row_of(right, classes);
-    wide(spacing[row][column]) as usize
 }

@@ -11,8 +11,7 @@ use Rattle.rules.specs.Basics.{zeros}
 use Rattle.rules.specs.Records.{records}
 use Rattle.rules.specs.Sheet.{countOf, measureOf, indentOf, recordsOf, limitsOk}
 use Rattle.rules.specs.Refusals.{splice, edited}
-use Rattle.rules.specs.Meanings.{All}
-use Rattle.compose.specs.Paragraph.{size, paragraph, IsListed, ListedBut}
+use Rattle.compose.specs.Paragraph.{size, paragraph}
 use Rattle.compose.specs.Scan.{RowsFrom, Front}
 use Rattle.compose.specs.Composed.{Kept}
 use Rattle.compose.specs.Kept.{KeptFrom}
@@ -21,7 +20,6 @@ use Rattle.compose.proofs.FrontRows.{front-kept}
 use Rattle.slot.specs.Slot.{spliced, storedWords, Replaceable}
 use Rattle.slot.proofs.Stored.{old-room, stored-count, stored-paragraph}
 use Rattle.slot.proofs.Spliced.{spliced-records, length-spliced}
-use Rattle.rules.proofs.Parts.{all-take, all-drop}
 use Rattle.rules.proofs.Splices.{splice-front, splice-after}
 use Rattle.rules.proofs.Words.{length-records}
 use Rattle.rules.proofs.Zeros.{length-zeros, drop-zeros}
@@ -67,26 +65,7 @@ module _ (s : List ℕ) (p d : ℕ) (ins : List ℕ) (len : length s ≡ 2824) (
             length-spliced (drop 8 s) ins (countOf s) p d (length ins / 6) (old-room s len few) within (omega arith),
           )
 
-  -- of its records only the inserted ones are new
-  words-listed : All IsListed (recordsOf s) → ListedBut list-words p (p + k)
-  unfolding total k
-  words-listed h =
-      let rs = recordsOf s in
-      let new = records ins 0 (length ins / 6) in
-      let r : length rs ≡ countOf s = length-records (drop 8 s) 0 (countOf s) in
-      let n : length new ≡ length ins / 6 = length-records ins 0 (length ins / 6) in
-      let a : take p (splice rs p d new) ≡ take p rs = splice-front rs p d new (omega (arith, r)) in
-      let q : p + length ins / 6 - length new + d ≡ p + d = omega (arith, n) in
-      let b : drop (p + length ins / 6) (splice rs p d new) ≡ drop (p + d) rs =
-      rw q at (splice-after rs p d new (p + length ins / 6) (omega (arith, r)) (omega (arith, n))) in
-      record {
-        order = omega arith;
-        inside = omega (arith, length-words);
-        before = rw (records-words, a) (all-take h p);
-        after = rw (records-words, b) (all-drop h (p + d));
-      }
-
-  -- and the rows of those after them are kept
+  -- the rows of the records after the inserted ones are kept
   words-rows : {ds gs os ds′ gs′ os′ : List ℕ} {r : ℕ} → Kept (storedWords s) ds gs os →
       KeptFrom (storedWords s) (p + d) (p + k) ds gs os ds′ gs′ os′ r → RowsFrom list-words p r ds′ gs′ os′
   unfolding total k
@@ -129,8 +108,6 @@ module _ (s : List ℕ) (p d : ℕ) (ins : List ℕ) (len : length s ≡ 2824) (
     pub replaceable : limitsOk (measureOf s) (indentOf s) ≡ true →
         Replaceable s list ((countOf s - d) * 6 + length ins)
     pub records : paragraph (take ((countOf s - d) * 6 + length ins) list) ≡ edited s p d ins
-    pub listed : All IsListed (recordsOf s) →
-        ListedBut (take ((countOf s - d) * 6 + length ins) list) p (p + length ins / 6)
     pub rows : {ds gs os ds′ gs′ os′ : List ℕ} {r : ℕ} → Kept (storedWords s) ds gs os →
         KeptFrom (storedWords s) (p + d) (p + length ins / 6) ds gs os ds′ gs′ os′ r →
         RowsFrom (take ((countOf s - d) * 6 + length ins) list) p r ds′ gs′ os′
@@ -170,8 +147,6 @@ module _ (s : List ℕ) (p d : ℕ) (ins : List ℕ) (len : length s ≡ 2824) (
         records =
             ap (λ w. paragraph (take total w)) f
             ∙ ap (λ w. paragraph w) (take-at list-words (drop total (zeros 1536)) total length-words) ∙ records-words;
-        listed = λ h. rw (ap (λ w. take total w) f, take-at list-words (drop total (zeros 1536)) total length-words)
-            (words-listed h);
         rows = λ q t. rw (ap (λ w. take total w) f, take-at list-words (drop total (zeros 1536)) total length-words)
             (words-rows q t);
         front = λ q t. rw (ap (λ w. take total w) f, take-at list-words (drop total (zeros 1536)) total length-words)

@@ -21,7 +21,7 @@ use Rattle.rules.specs.Listed.{isListed, notListed}
 use Rattle.rules.specs.Meanings.{All}
 use Rattle.rules.proofs.FirstFailing.{none-fails}
 use Rattle.rules.proofs.Judged.{judged-passes, line-count}
-use Rattle.compose.specs.Paragraph.{size, paragraph, IsListed}
+use Rattle.compose.specs.Paragraph.{size, paragraph}
 use Rattle.compose.specs.Composed.{Fitting}
 use Rattle.slot.specs.Slot.{storedWords, StoredLines}
 
@@ -107,12 +107,6 @@ module _ (s : List ℕ) where
   pub sound-in-use : sound s ≡ true → inUseOf s ≤ 1
   unfolding sound
   sound-in-use e = leb-true (inUseOf s) 1 (and-right (limits && few) used (and-left (limits && few && used) _ e))
-
-  pub sound-listed : sound s ≡ true → All IsListed (recordsOf s)
-  unfolding sound notListed
-  sound-listed e =
-      let z = eqb-true _ 0 (and-right (limits && few && used) _ e) in
-      none-fails isListed 0 (recordsOf s) (judged-passes (measureOf s) (indentOf s) (recordsOf s) 0 refl z .listed)
 
 -- what is told of a slot's lines
 pub stored-damaged : {K : Type 0} (s starts : List ℕ) (number place : ℕ) → sound s ≡ false →

@@ -2,7 +2,7 @@
 ghost use mathlib.Core.Path.{_≡_};
 ghost use lib.ListN.{length, take};
 ghost use Rattle.rules.specs.Refusals.{says, editSays, editSlot};
-ghost use Rattle.compose.specs.Paragraph.{paragraph, ListedBut};
+ghost use Rattle.compose.specs.Paragraph.{paragraph};
 ghost use Rattle.compose.specs.Scan.{RowsFrom, Front};
 ghost use Rattle.compose.specs.Composed.{Kept};
 ghost use Rattle.slot.specs.Redone.{Countable, Counted};
@@ -80,24 +80,23 @@ pub(crate) fn stored_lines(
     a
 }
 
-// Composes the first `total` words of `list` as the slot's records and, where they are accepted, writes the slot. Of
-// the records those from `start` up to `end` are new; the others were the slot's, and answer 4 has asked them. The
-// rows of the records from `kept` on are filled, and those before the unit that record `stop` is in.
+// Composes the first `total` words of `list` as the slot's records and, where they are accepted, writes the slot. The
+// records before `known` were the slot's, and answer 4 has asked them. The rows of the records from `kept` on are
+// filled, and those before the unit that record `stop` is in.
 fn replace(
     words: &mut [u32],
     list: &[u32],
     total: usize,
-    start: usize,
-    end: usize,
+    known: usize,
     stop: usize,
     kept: usize,
     advances: &mut [u32; 256],
     gaps: &mut [u64; 256],
     offsets: &mut [u32; 256],
 ) -> Answer
-    requires { ⌜ Replaceable (now words) (now list) total × ListedBut (take total (now list)) start end ⌝ }
-    requires { ⌜ RowsFrom (take total (now list)) start kept (now advances) (now gaps) (now offsets) ⌝ }
-    requires { ⌜ Front (take total (now list)) start stop (now advances) (now gaps) (now offsets) ⌝ }
+    requires { ⌜ Replaceable (now words) (now list) total ⌝ }
+    requires { ⌜ RowsFrom (take total (now list)) known kept (now advances) (now gaps) (now offsets) ⌝ }
+    requires { ⌜ Front (take total (now list)) known stop (now advances) (now gaps) (now offsets) ⌝ }
     ensures { λ r. ⌜ (says (r .number) (r .place), now (words .exit)) ≡
         replaced (now (words .entry)) (paragraph (take total (now (list .entry)))) ⌝ }
 {
@@ -107,8 +106,7 @@ fn replace(
     let mut lines = [0u32; 768];
     let a = compose(
         &list[0..total],
-        start,
-        end,
+        known,
         stop,
         kept,
         m,
@@ -215,7 +213,6 @@ pub fn edit_slot(words: &mut [u32], place: u32, deleted: u32, inserted: &[u32]) 
         &list,
         kept + n,
         start,
-        start + n / 6,
         stop,
         rows,
         &mut advances,

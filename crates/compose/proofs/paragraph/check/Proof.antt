@@ -6,7 +6,6 @@ use native.Mathlib.Omega.{arith}
 use denote.Ref.{now}
 use Rattle.compose.specs.Paragraph.{size, Checked}
 use Rattle.compose.proofs.Answers.{named, no-10, judged-10, lines-within, started, not-started}
-use Rattle.compose.proofs.Faults.{all-new}
 use Rattle.compose.proofs.RowScan.{rows-none, front-none}
 use Rattle.compose.proofs.paragraph.check.Statement.{statement}
 use Rattle.compose.proofs.paragraph.check.Tie as tie
@@ -30,7 +29,7 @@ checked c = passed c .check-records .ensures .records .accepted (c .if1 .left)
 check-records-requires : tie.Need-check-records-requires
 check-records-requires c κs =
     let s = c .before .before .before .before in
-    (all-new (now (s .args .ws)), (rows-none (s .pre .few), front-none (now (s .args .ws)) 0 _ _ _))
+    (rows-none (s .pre .few), front-none (now (s .args .ws)) 0 _ _ _)
 
 returns : tie.Need-returns
 returns c =

@@ -33,9 +33,7 @@ checked : (c : tie.Else1) → Checked (words (passed c))
 checked c = passed c .check-records .ensures .records .accepted (c .if1 .left)
 
 check-records-requires : tie.Need-check-records-requires
-check-records-requires c κs =
-    let s = c .before .before .before .before in
-    (s .pre .0 .1, s .pre .1)
+check-records-requires c κs = c .before .before .before .before .pre .1
 
 returns : tie.Need-returns
 returns c =
@@ -50,18 +48,18 @@ compose-lines-requires c κs =
     let p : length (now (s .args .places)) ≡ 512 = search needs in
     let l : length (now (s .args .lines)) ≡ 768 = search needs in
     record {
-      few = s .pre .0 .0 .few;
+      few = s .pre .0 .few;
       rows = k .check-records .ensures .rows (d .if1 .left);
-      measure = s .pre .0 .0 .measure;
-      indent = s .pre .0 .0 .indent;
-      place-room = omega (arith, s .pre .0 .0 .few, p);
-      line-room = omega (arith, s .pre .0 .0 .few, l);
+      measure = s .pre .0 .measure;
+      indent = s .pre .0 .indent;
+      place-room = omega (arith, s .pre .0 .few, p);
+      line-room = omega (arith, s .pre .0 .few, l);
     }
 
 says-requires : tie.Need-says-requires
 says-requires c κs =
     let k = c .before .before in
-    omega (arith, c .if2 .taken, entry (passed (judged k)) .pre .0 .0 .few)
+    omega (arith, c .if2 .taken, entry (passed (judged k)) .pre .0 .few)
 
 returns-2 : tie.Need-returns-2
 returns-2 c =
@@ -89,7 +87,7 @@ says-requires-2 c κs =
       b .ensures .count n,
       lines-composed w (s .args .m) (s .args .x),
       lines-within w (s .args .m) (s .args .x),
-      s .pre .0 .0 .few,
+      s .pre .0 .few,
     )
 
 returns-3 : tie.Need-returns-3

@@ -35,15 +35,15 @@ read c = c .before .before .before
 record-at-requires : tie.Need-record-at-requires Inv-loop μ-loop
 record-at-requires c κs = let w = c .loop .inv in omega (arith, c .before .before .pre .0 .within)
 
-record-ok-requires : tie.Need-record-ok-requires Inv-loop μ-loop
-record-ok-requires c κs = start (c .before) .pre .2
+is-fine-requires : tie.Need-is-fine-requires Inv-loop μ-loop
+is-fine-requires c κs = start (c .before) .pre .2
 
 returns : tie.Need-returns Inv-loop μ-loop
 returns c =
     let a = c .before .before .before in
     let w = a .before .loop .inv in
     unit-unsound (a .before .loop .first - 1) (omega (arith, start a .pre .0 .within)) (a .record-at .ensures)
-    (sym (c .before .record-ok .ensures) ∙ not-true _ (c .if2 .taken))
+    (c .before .is-fine .ensures .1 (not-true _ (c .if2 .taken)))
 
 -- the record that was read keeps its own rules
 fine : (c : tie.Joined1 Inv-loop μ-loop) → Fine (recordOf (c .before .record-at .result))
@@ -52,7 +52,7 @@ fine c =
     let w = a .before .loop .inv in
     let s = start a .pre .0 in
     elim (c .if1 .came) [
-      | inl t ↦ sym (t .1 .ensures) ∙ not-false _ (t .2 .left)
+      | inl t ↦ t .1 .ensures .0 (not-false _ (t .2 .left))
       | inr t ↦
           rw (a .record-at .ensures)
           (known-fine s (a .before .loop .first - 1) (omega (arith, t .left)) (omega (arith, s .within)))
@@ -69,7 +69,7 @@ walked c =
 
 add-base : tie.Need-add-base Inv-loop μ-loop
 add-base c =
-    let b = record-bounds (recordOf (c .before .before .record-at .result)) (fine (c .before)) in
+    let b = record-bounds (recordOf (c .before .before .record-at .result)) (fine (c .before) .sound) in
     let w = c .before .before .before .loop .inv in
     omega arith
 
@@ -134,7 +134,7 @@ unit-before-spec =
     loop-holds
     (λ c. search needs)
     record-at-requires
-    record-ok-requires
+    is-fine-requires
     returns
     (λ c. search needs)
     add-base

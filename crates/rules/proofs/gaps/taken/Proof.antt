@@ -7,7 +7,7 @@ use denote.Ref.{now}
 use borrow.Author.Needs.{needs}
 use Rattle.rules.specs.Spacing.{named}
 use Rattle.rules.specs.Packed.{leftWord, rightWord}
-use Rattle.rules.proofs.Entries.{entry-law, words-at}
+use Rattle.rules.proofs.Entries.{entry-law, words-at, solid-taken}
 use Rattle.rules.proofs.gaps.taken.Statement.{statement}
 use Rattle.rules.proofs.gaps.taken.Tie as tie
 
@@ -16,6 +16,9 @@ row : (s : tie.Start) →
     getD (now (s .args .words)) (s .args .entry) []
     ≡ leftWord (named (s .args .entry)) ∷ rightWord (named (s .args .entry)) ∷ []
 row s = ap (λ t. getD t (s .args .entry) []) (s .pre .3) ∙ words-at (s .args .entry) (s .pre .0)
+
+returns : tie.Need-returns
+returns c = let s = c .before .args in solid-taken (s .entry) (s .left) (s .right) (c .if1 .taken)
 
 mul-times : tie.Need-mul-times
 mul-times c = search needs
@@ -27,7 +30,9 @@ index-2-times : tie.Need-index-2-times
 index-2-times c = search needs
 
 times-requires : tie.Need-times-requires
-times-requires c κs = let s = c .before in (s .pre .1, rw (row s) (entry-law (s .args .entry) (s .pre .0) .small .0))
+times-requires c κs =
+    let s = c .before .before in
+    (s .pre .1, rw (row s) (entry-law (s .args .entry) (s .pre .0) .small .0))
 
 mul-times-2 : tie.Need-mul-times-2
 mul-times-2 c = search needs
@@ -40,23 +45,24 @@ index-2-times-2 c = search needs
 
 times-requires-2 : tie.Need-times-requires-2
 times-requires-2 c κs =
-    let s = c .before .before .before in
+    let s = c .before .before .before .before in
     (s .pre .2, rw (row s) (entry-law (s .args .entry) (s .pre .0) .small .1))
 
 add-result : tie.Need-add-result
 add-result c = search needs
 
-returns : tie.Need-returns
-returns c =
+returns-2 : tie.Need-returns-2
+returns-2 c =
     let f = c .before .before .times .ensures in
     let g = c .times2 .ensures in
-    let s = c .before .before .before .before in
+    let s = c .before .before .before .before .before in
     record { word = rw (f .0, g .0, row s); small = omega (arith, f .1, g .1) }
 
 pub taken-spec : {M : Type 1} → statement M
 taken-spec =
     tie.close
     (tie.spec
+    returns
     mul-times
     index-1-times
     index-2-times
@@ -66,4 +72,4 @@ taken-spec =
     index-2-times-2
     times-requires-2
     add-result
-    returns)
+    returns-2)

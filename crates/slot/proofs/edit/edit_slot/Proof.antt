@@ -15,7 +15,7 @@ use Rattle.compose.specs.Composed.{Kept}
 use Rattle.slot.specs.Slot.{storedWords, replaced, Replaceable}
 use Rattle.slot.proofs.Replaced.{replaced-length}
 use Rattle.slot.proofs.Counted.{countable, counted-answer}
-use Rattle.slot.proofs.Stored.{sound-limits, sound-count, sound-listed, stored-count, stored-0, stored-4}
+use Rattle.slot.proofs.Stored.{sound-limits, sound-count, stored-count, stored-0, stored-4}
 use Rattle.slot.proofs.Outcomes.{refusals, refuses-4, refuses-5, refuses-5-end, refuses-6, refuses-7, replaces}
 use Rattle.slot.proofs.Edited.{NewList, new-list}
 use borrow.Author.Needs.{needs}
@@ -191,18 +191,12 @@ replace-requires c κs =
     let k = moved o in
     let d = keeping (k .before) in
     let n = new-list-at d in (
-      (replaceable-at d, n .listed (sound-listed (now (spliced d .args .words)) (is-sound-at (four d)))),
+      replaceable-at d,
       (
         n .rows (rows-at (four d)) (k .keep-rows .ensures),
         rw (o .over .ensures) (n .front (rows-at (four d)) (k .keep-rows .ensures)),
       ),
     )
-
-add-replace-2 : tie.Need-add-replace-2
-add-replace-2 c =
-    let k = moved (c .before .before) in
-    let d = keeping (k .before) in
-    omega (arith, few-at (four d), within-at (five d), seven d .if5 .left)
 
 -- the old lines' first records, and what becomes of the slot
 starts-at : (c : tie.Else1) →
@@ -289,7 +283,6 @@ edit-slot-spec =
     (λ c. search needs)
     (λ c. search needs)
     add-replace
-    add-replace-2
     replace-requires
     counted-requires
     (λ c. search needs)

@@ -24,12 +24,9 @@ entry c = rows-lent c .before .before .before .before .before .before .before
 compose-requires : tie.Need-compose-requires
 compose-requires c κs =
     let s = entry c in
-    let r = s .pre .0 .0 in
+    let r = s .pre .0 in
     rw sub-zero (
-      (
-        fitting _ _ _ (replaced-few (now (s .args .words)) (now (s .args .list)) (s .args .total) r) (r .limits),
-        s .pre .0 .1,
-      ),
+      fitting _ _ _ (replaced-few (now (s .args .words)) (now (s .args .list)) (s .args .total) r) (r .limits),
       s .pre .1,
     )
 
@@ -41,7 +38,7 @@ returns c =
     let d = accepted .before .before in
     let s = entry (d .before) in
     let k = d .compose in
-    accepted-slot (now (s .args .words)) (now (s .args .list)) (s .args .total) (s .pre .0 .0) _ _ _ (k .result .number)
+    accepted-slot (now (s .args .words)) (now (s .args .list)) (s .args .total) (s .pre .0) _ _ _ (k .result .number)
     (k .result .place)
     (accepted .if1 .taken)
     (rw sub-zero at (k .ensures))

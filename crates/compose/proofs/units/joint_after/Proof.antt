@@ -1,0 +1,37 @@
+-- `compose::units::joint_after` meets its contract. Assumes nothing.
+use mathlib.Core.Path.{ap, sym, _∙_}
+use borrow.Author.Needs.{needs}
+use Rattle.rules.specs.Records.{rowOf}
+use Rattle.compose.proofs.Joints.{joint-none, joint-found}
+use Rattle.compose.proofs.units.joint_after.Statement.{statement}
+use Rattle.compose.proofs.units.joint_after.Tie as tie
+
+joint-between-requires : tie.Need-joint-between-requires
+joint-between-requires c κs =
+    let t = c .before .before in
+    let p = t .before .before .pre in
+    let d = p .0 in
+    let h = t .if1 .taken in
+    let l = c .before .side-at .ensures in
+    let r = c .side-at2 .ensures in (
+      (rw l (d .left), rw r (d .right h)),
+      (
+        (d .row-is ∙ ap (λ s. rowOf (s .class)) (sym l), d .column-is h ∙ ap (λ s. rowOf (s .class)) (sym r)),
+        p .1,
+      ),
+    )
+
+returns : tie.Need-returns
+returns c =
+    let b = c .before in
+    let t = b .before .before in
+    joint-found _ _ _ (t .before .before .pre .0 .inside) (t .if1 .taken) (b .before .side-at .ensures) (b .side-at2 .ensures)
+    (c .joint-between .ensures)
+
+returns-2 : tie.Need-returns-2
+returns-2 c = joint-none _ _ _ (c .if1 .left)
+
+pub joint-after-spec : {M : Type 1} → statement M
+joint-after-spec =
+    tie.close
+    (tie.spec (λ c κs. search needs) (λ c κs. search needs) joint-between-requires returns returns-2)

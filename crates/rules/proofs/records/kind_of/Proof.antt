@@ -1,0 +1,21 @@
+-- `rules::records::kind_of` meets its contract. Assumes nothing.
+use mathlib.Core.Path.{ap, _∙_}
+use Prim.Native.Nat.{_%_}
+use borrow.Author.Needs.{needs}
+use Rattle.rules.specs.Values.{kindNumbered}
+use Rattle.rules.proofs.Rows.{entry-at, entry-kind, class-small}
+use Rattle.rules.proofs.records.kind_of.Statement.{statement}
+use Rattle.rules.proofs.records.kind_of.Tie as tie
+
+element-copy-out-wide : tie.Need-element-copy-out-wide
+element-copy-out-wide c = class-small (c .args .class) (c .pre .0)
+
+returns : tie.Need-returns
+returns c =
+    let s = c .before .before in
+    let k = s .args .class in
+    ap (λ n. kindNumbered (n % 4)) (c .wide .ensures ∙ entry-at (s .pre .1) k (class-small k (s .pre .0)))
+    ∙ entry-kind k
+
+pub kind-of-spec : {M : Type 1} → statement M
+kind-of-spec = tie.close (tie.spec element-copy-out-wide (λ c κs. search needs) returns)
