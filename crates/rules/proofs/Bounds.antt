@@ -16,9 +16,7 @@ use Rattle.rules.proofs.Facts.{tested}
 use Rattle.rules.proofs.Shares.{none-yet}
 
 pub rubyTotal-small : (n s : ℕ) → n ≤ 64 → s ≤ 4000 → rubyTotal n s ≤ 128000
-rubyTotal-small n s h k =
-    let half : s / 2 ≤ 2000 = omega arith in
-    mul-le-mul h half
+rubyTotal-small n s h k = mul-le-mul {m₂ = 2000} h (omega arith)
 
 -- of two or more items in the shorter row the first is not shifted, and the last by all of the difference
 pub shift-first : (d n : ℕ) → 2 ≤ n → shift d n 0 ≡ 0
@@ -27,14 +25,12 @@ shift-first d n h = rw (le-leb 2 n h) (none-yet d _)
 
 pub shift-last : (d n : ℕ) → 2 ≤ n → shift d n (n - 1) ≡ d
 unfolding shift
-shift-last d n h =
-    let pos : 0 < n - 1 = omega arith in
-    rw (le-leb 2 n h) (mul-div-left d pos)
+shift-last d n h = rw (le-leb 2 n h) (mul-div-left d (omega arith))
 
 -- a single one stands in the middle
 pub shift-only : (d : ℕ) → (2 * shift d 1 0 ≤ d) × (d ≤ 2 * shift d 1 0 + 1)
 unfolding shift
-shift-only d = (omega arith, omega arith)
+shift-only d = omega arith
 
 -- no item is shifted by more than the difference
 pub shift-small : (d n k : ℕ) → k < n → shift d n k ≤ d
@@ -47,9 +43,7 @@ shift-small d n k h =
 
 -- the product of which a shift is the quotient
 pub shift-product : {d n k : ℕ} → ShiftBounds d n k → d * k ≤ 128000 * 63
-shift-product {k = k} b =
-    let last : k ≤ 63 = omega arith in
-    mul-le-mul (b .difference) last
+shift-product b = mul-le-mul {m₂ = 63} (b .difference) (omega arith)
 
 -- what holds where ruby place does not refuse
 pub record RubyBounds (base n s k : ℕ) : Type 0 where

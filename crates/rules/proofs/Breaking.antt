@@ -12,9 +12,9 @@ use Rattle.rules.specs.Basics.{Run, alone, whole, then, joined, tie, cut
 use Rattle.rules.specs.Groups.{TextUnit, advance, counts}
 use Rattle.rules.specs.Gaps.{least}
 use Rattle.rules.specs.Breaks.{bound, gap, smallest, width, runs, wideRun, noBreaking, filled, breaking}
-use Rattle.rules.specs.Meanings.{Apart, apart-none, apart-one, apart-more, Choice, Fits, fits-none, fits-more}
+use Rattle.rules.specs.Meanings.{Apart, apart-none, apart-more, Choice, Fits, fits-none, fits-more}
 use Rattle.rules.proofs.Facts.{tested, some-none}
-use Rattle.rules.proofs.Cuts.{last-append, cut-joined, cut-apart, cut-first, cut-split}
+use Rattle.rules.proofs.Cuts.{last-append, cut-joined, cut-apart, apart-alike, cut-first, cut-split}
 
 -- no run is named exactly where every run fits
 runs-fit : (m x i : ℕ) (ls : List (Run TextUnit)) → wideRun m x i ls ≡ none → Fits m x ls
@@ -112,17 +112,15 @@ filled-first m x l (k ∷ ks) =
       | inr e ↦ (l, filled m 0 k ks, (rw (e, filled)), refl)
     ]
 
-then-apart : (l k : Run TextUnit) {ks : List (Run TextUnit)} → Apart bound (k ∷ ks) → Apart bound (then l k ∷ ks)
-then-apart l k apart-one = apart-one
-then-apart l k (apart-more {k = j} e h) = apart-more {l = then l k} {k = j} (rw last-append e) h
-
 filled-apart : (m x : ℕ) (l : Run TextUnit) (ks : List (Run TextUnit)) → Apart bound (l ∷ ks) →
     Apart bound (filled m x l ks)
 unfolding filled
 filled-apart m x l [] h = h
 filled-apart m x l (k ∷ ks) (apart-more g h) =
     elim (tested (leb (x + width (then l k)) m)) [
-      | inl e ↦ rw (e, filled) (filled-apart m x (then l k) ks (then-apart l k h))
+      | inl e ↦
+          let last = sym (last-append (l .first) (l .rest) (k .first) (k .rest)) in
+          rw (e, filled) (filled-apart m x (then l k) ks (apart-alike bound last h))
       | inr e ↦
           let f = filled-first m 0 k ks in
           let a : Apart bound (f .0 ∷ f .1) = rw (f .2) at (filled-apart m 0 k ks h) in

@@ -10,8 +10,7 @@ use lib.Dec.{ltb, eqb}
 use lib.ListN.{getD}
 use borrow.Author.Tests.{ltb-true, eqb-true}
 use Rattle.rules.specs.Records.{classes, classOk, placeIn, rowOf}
-use Rattle.rules.specs.Space.{Fraction, no-part, eighth, quarter, half, Space, spaced, measured}
-use Rattle.rules.specs.Space.{ruleOf, spaceOf}
+use Rattle.rules.specs.Space.{Fraction, no-part, eighth, quarter, half, Space, spaced, measured, ruleOf, spaceOf}
 use Rattle.rules.specs.Gaps.{Flexibility, early, late, rigid, flexibility, gapBy}
 use Rattle.rules.specs.Spacing.{Entry, solid, named, gapSet, eighths, stage, sameSpace, agrees, cellOf}
 use Rattle.rules.specs.Spacing.{jointCell, spacingTable, jointIn, cellIn}

@@ -9,7 +9,7 @@ use Rattle.rules.specs.Basics.{Run, alone, whole, then, joined, tie, cut
 use Rattle.rules.specs.Records.{Rec}
 use Rattle.rules.specs.Groups.{TextUnit, sameGroup, units}
 use Rattle.rules.proofs.Facts.{tested, true-false, nil-cons}
-use Rattle.rules.specs.Meanings.{All, all-none, all-more, lastOf, Tied, tied-one, tied-more, TiedRun}
+use Rattle.rules.specs.Meanings.{All, all-none, all-more, lastOf, lastIn, Tied, tied-one, tied-more, TiedRun}
 use Rattle.rules.specs.Meanings.{Apart, apart-none, apart-one, apart-more, Maximal, Boundary, OneUnit, single}
 use Rattle.rules.specs.Meanings.{grouped}
 
@@ -48,14 +48,15 @@ module _ {A : Type 0} (t : A → A → Bool) where
   cut-tied [] = all-none
   cut-tied (a ∷ ps) = tie-tied a (cut-tied ps)
 
-  first-longer : (a : A) {l : Run A} {ls : List (Run A)} → Apart t (l ∷ ls) → Apart t (then (alone a) l ∷ ls)
-  first-longer a apart-one = apart-one
-  first-longer a (apart-more e h) = apart-more e h
+  -- of a first run its last element is asked only
+  pub apart-alike : {l k : Run A} {ls : List (Run A)} → lastIn l ≡ lastIn k → Apart t (l ∷ ls) → Apart t (k ∷ ls)
+  apart-alike p apart-one = apart-one
+  apart-alike {k = k} p (apart-more {k = j} e h) = apart-more {l = k} {k = j} (rw (← p) e) h
 
   tie-apart : (a : A) (ls : List (Run A)) → Apart t ls → Apart t (tie t a ls)
   tie-apart a [] h = apart-one
   tie-apart a (l ∷ ls) h =
-      elim (tested (t a (l .first))) [ inl e ↦ rw e (first-longer a h) | inr e ↦ rw e (apart-more e h) ]
+      elim (tested (t a (l .first))) [ inl e ↦ rw e (apart-alike refl h) | inr e ↦ rw e (apart-more e h) ]
 
   pub cut-apart : (ps : List A) → Apart t (cut t ps)
   unfolding cut
@@ -73,12 +74,7 @@ module _ {A : Type 0} (t : A → A → Bool) where
   unfolding cut
   cut-run a [] [] h tied-one g = rw h
   cut-run a [] (l ∷ ls) h tied-one (apart-more e g) = rw (h, e)
-  cut-run a (b ∷ bs) ls h (tied-more e k) g = rw (cut-run b bs ls h k (without g), e)
-    where
-      without : {ls : List (Run A)} → Apart t (record { first = a; rest = b ∷ bs } ∷ ls) →
-          Apart t (record { first = b; rest = bs } ∷ ls)
-      without apart-one = apart-one
-      without (apart-more e h) = apart-more e h
+  cut-run a (b ∷ bs) ls h (tied-more e k) g = rw (cut-run b bs ls h k (apart-alike refl g), e)
 
   pub apart-tail : {l : Run A} {ls : List (Run A)} → Apart t (l ∷ ls) → Apart t ls
   apart-tail apart-one = apart-none
@@ -123,8 +119,7 @@ module _ {A : Type 0} (t : A → A → Bool) where
   unfolding cut
   cut-split a [] c cs e =
       let f = cut-first c cs in
-      let h : t a (f .0 .first) ≡ false = rw (f .3) e in
-      rw (f .2, h)
+      rw (f .2, f .3, e)
   cut-split a (b ∷ bs) c cs e =
       let f = cut-first b bs in
       rw (cut-split b bs c cs e, f .2) (sym (tie-append a (f .0) (f .1) (cut t (c ∷ cs))))

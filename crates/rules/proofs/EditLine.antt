@@ -2,7 +2,6 @@
 use mathlib.Core.Path.{_≡_, refl, ap, _∙_}
 use Prim.Native.Nat.{ℕ, zero, suc, _-_, _≤_, _<_, min}
 use native.Mathlib.Omega.{arith}
-use mathlib.Core.Bool.{true, false}
 use mathlib.Core.List.{List, [], _∷_}
 use mathlib.Core.Logic.{inl, inr}
 use lib.Dec.{ltb}
@@ -20,10 +19,10 @@ held i ls zero h = omega arith
 held i [] (suc j) h = omega arith
 held i (l ∷ ls) (suc j) h =
     elim (tested (ltb i (l .count))) [
-      | inl e ↦ let g : suc j ≤ 0 = rw (e, holding) at h in absurd (omega arith)
+      | inl e ↦ omega (arith, rw (e, holding) at h)
       | inr e ↦
-          let g : suc j ≤ suc (holding (i - l .count) ls) = rw (e, holding) at h in
-          omega (arith, held (i - l .count) ls j (omega arith), ltb-false i (l .count) e)
+          let g = held (i - l .count) ls j (omega (arith, rw (e, holding) at h)) in
+          omega (arith, ltb-false i (l .count) e)
     ]
 
 -- a record of the lines is held
@@ -33,13 +32,11 @@ holding-holds i [] h = absurd (omega arith)
 holding-holds i (l ∷ ls) h =
     elim (tested (ltb i (l .count))) [
       | inl e ↦
-          rw (e, holding)
-          record { there = omega arith; from = omega arith; to = omega (arith, ltb-true i (l .count) e) }
+          rw (e, holding) (omega (arith, ltb-true i (l .count) e))
       | inr e ↦
           let c = ltb-false i (l .count) e in
           let g = holding-holds (i - l .count) ls (omega arith) in
-          rw (e, holding)
-          record { there = omega (arith, g .there); from = omega (arith, g .from); to = omega (arith, g .to) }
+          rw (e, holding) (omega arith)
     ]
 
 -- and no other
@@ -78,14 +75,10 @@ holding-only : (i : ℕ) (ls : List Line) (k : ℕ) → Holds i ls k → holding
 unfolding holding start
 holding-only i [] k h = absurd (omega (arith, h .there))
 holding-only i (l ∷ ls) zero h =
-    let e : ltb i (l .count) ≡ true = lt-ltb i (l .count) (omega (arith, h .to)) in
-    rw (e, holding)
+    rw (lt-ltb i (l .count) (omega (arith, h .to)), holding)
 holding-only i (l ∷ ls) (suc k) h =
-    let e : ltb i (l .count) ≡ false = le-ltb i (l .count) (omega (arith, h .from)) in
-    rw (e, holding)
-    (ap suc
-    (holding-only (i - l .count) ls k
-    record { there = omega (arith, h .there); from = omega (arith, h .from); to = omega (arith, h .from, h .to) }))
+    rw (le-ltb i (l .count) (omega (arith, h .from)), holding)
+    (ap suc (holding-only (i - l .count) ls k (omega arith)))
 
 pub edit-line-only : (place : ℕ) (old : List Line) (k : ℕ) → Holds place old k → editLine place old ≡ k
 unfolding editLine
@@ -110,8 +103,7 @@ pub before-place : (place : ℕ) (old : List Line) (n : ℕ) → suc n ≡ first
     (suc n < length old) × (start (suc (suc n)) old ≤ place)
 unfolding editLine
 before-place place old n e =
-    let h : suc (suc n) ≤ holding place old = omega arith in
-    (omega arith, held place old (suc (suc n)) h)
+    (omega arith, held place old (suc (suc n)) (omega arith))
 
 -- f is no more than the new line count, since those lines stay
 pub f-within : (place : ℕ) (old new : List Line) → take (firstRedone place old) new ≡ take (firstRedone place old) old →

@@ -1,6 +1,6 @@
 -- Where a line ends, by its kind. Assumes nothing.
-use mathlib.Core.Path.{_≡_, refl, sym}
-use Prim.Native.Nat.{ℕ, zero, suc, _+_, _*_, _-_, _/_, _≤_, _<_}
+use mathlib.Core.Path.{_≡_}
+use Prim.Native.Nat.{ℕ, _+_, _*_, _-_, _/_, _≤_, _<_}
 use native.Mathlib.Omega.{arith}
 use native.Mathlib.Nat.{mul-div-left, div-zero, zero-mul, zero-div}
 use mathlib.Core.Bool.{Bool, true, false, cond}
@@ -11,8 +11,7 @@ use Rattle.rules.specs.Basics.{Run}
 use Rattle.rules.specs.Groups.{TextUnit}
 use Rattle.rules.specs.Gaps.{Gap}
 use Rattle.rules.specs.Breaks.{width}
-use Rattle.rules.specs.Adjustment.{Amounts, amounts, amountsOf, nothing, gapsOf, natural}
-use Rattle.rules.specs.Adjustment.{kindOf, lineOf}
+use Rattle.rules.specs.Adjustment.{Amounts, amounts, amountsOf, nothing, gapsOf, natural, kindOf, lineOf}
 use Rattle.rules.proofs.Facts.{tested}
 use Rattle.rules.proofs.Widths.{natural-smallest}
 use Rattle.rules.proofs.Shares.{shared-out, none-yet, ending-sum}
@@ -34,17 +33,7 @@ pub record Taken (m x : ℕ) (final : Bool) (l : Run TextUnit) (e : Amounts) (c 
 pub taken : (m x : ℕ) (final : Bool) (l : Run TextUnit) → x + width l ≤ m →
     Taken m x final l (amountsOf m x final l) (gapsOf l)
 unfolding amountsOf amounts
-taken m x final l h =
-    let n = natural-smallest (l .first) (l .rest) in
-    record {
-      shrink₁ = omega arith;
-      shrink₂ = omega arith;
-      stretch₁ = omega arith;
-      over = omega arith;
-      under = omega arith;
-      full-shrink = λ p. omega arith;
-      full-stretch = λ p. omega arith;
-    }
+taken m x final l h = omega (arith, natural-smallest (l .first) (l .rest))
 
 -- what is shared out at stretch stage 2
 abbrev spread : Amounts → Gap → ℕ
@@ -74,11 +63,7 @@ end-law m x final l h =
     )
 
 spread-all : (e : Amounts) (c : Gap) → (c .stretch₂ ≡ 0 → ⊥) → spread e c ≡ e .stretch₂
-spread-all e c h = mul-div-left (e .stretch₂) (positive (c .stretch₂) h)
-  where
-    positive : (n : ℕ) → (n ≡ 0 → ⊥) → 0 < n
-    positive zero h = absurd (h refl)
-    positive (suc n) h = omega arith
+spread-all e c h = mul-div-left (e .stretch₂) (omega arith)
 
 spread-none : (e : Amounts) (c : Gap) → c .stretch₂ ≡ 0 → spread e c ≡ 0
 spread-none e c h = rw (h, div-zero)
@@ -109,13 +94,9 @@ pub wide-ends : (m x : ℕ) (final : Bool) (l : Run TextUnit) → x + width l �
     lineOf m x final l .end ≡ m
 wide-ends m x final l h n =
     let t = taken m x final l h in
-    let z : narrow m x final l ≡ 0 = none final in
+    let z = at-most final (m - natural x l) in
     let s : amountsOf m x final l .stretch₂ ≡ 0 = omega (arith, t .under) in
     omega (arith, end-law m x final l h, spread-zero (amountsOf m x final l) (gapsOf l) s, t .under)
-  where
-    none : (f : Bool) → cond f 0 (m - natural x l) ≡ 0
-    none true = refl
-    none false = omega arith
 
 -- a final line that is not wider ends where it naturally does
 pub final-ends : (m x : ℕ) (l : Run TextUnit) → x + width l ≤ m → natural x l ≤ m →
@@ -125,54 +106,32 @@ final-ends m x l h n =
     let s : amountsOf m x true l .stretch₂ ≡ 0 = omega (arith, t .under) in
     omega (arith, end-law m x true l h, spread-zero (amountsOf m x true l) (gapsOf l) s, t .under)
 
-two-one : _≡_ {A = ℕ} 2 1 → ⊥
-two-one e = omega arith
-
--- a line of kind 1, flush, ends at the measure
-pub flush-ends : (m x : ℕ) (final : Bool) (l : Run TextUnit) → x + width l ≤ m → lineOf m x final l .kind ≡ 1 →
-    lineOf m x final l .end ≡ m
+-- a line of kind 1, flush, ends at the measure; one of kind 2, short, ends below it and has no gap of stretch stage 2
+ends-by-kind : (m x : ℕ) (final : Bool) (l : Run TextUnit) → x + width l ≤ m → let k = lineOf m x final l in
+    (k .kind ≡ 1 → k .end ≡ m) × (k .kind ≡ 2 → (k .end < m) × (gapsOf l .stretch₂ ≡ 0))
 unfolding lineOf kindOf
-flush-ends m x true l h k = omega arith
-flush-ends m x false l h k =
+ends-by-kind m x true l h = omega arith
+ends-by-kind m x false l h =
     let e = amountsOf m x false l in
     let t = taken m x false l h in
-    elim (tested (ltb 0 (e .stretch₂))) [
-      | inl p ↦
-          elim (tested (eqb (gapsOf l .stretch₂) 0)) [
-            | inl q ↦ absurd (two-one (rw (p, q) at k))
-            | inr q ↦
-                omega (arith, end-law m x false l h, spread-all e (gapsOf l) (eqb-false _ _ q), t .under, t .over)
-          ]
-      | inr p ↦
-          let s : e .stretch₂ ≡ 0 = omega (arith, ltb-false 0 (e .stretch₂) p) in
-          omega (arith, end-law m x false l h, spread-zero e (gapsOf l) s, t .under, t .over)
-    ]
-
--- a line of kind 2, short, ends below the measure and has no gap of stretch stage 2
-pub short-ends : (m x : ℕ) (final : Bool) (l : Run TextUnit) → x + width l ≤ m → lineOf m x final l .kind ≡ 2 →
-    (lineOf m x final l .end < m) × (gapsOf l .stretch₂ ≡ 0)
-unfolding lineOf kindOf
-short-ends m x true l h k = omega arith
-short-ends m x false l h k =
-    let e = amountsOf m x false l in
-    let t = taken m x false l h in
+    let end = end-law m x false l h in
     elim (tested (ltb 0 (e .stretch₂))) [
       | inl p ↦
           elim (tested (eqb (gapsOf l .stretch₂) 0)) [
             | inl q ↦
-                let z : gapsOf l .stretch₂ ≡ 0 = eqb-true _ _ q in (
-                  omega (
-                    arith,
-                    end-law m x false l h,
-                    spread-none e (gapsOf l) z,
-                    t .under,
-                    t .over,
-                    ltb-true 0
-                        (e .stretch₂) p,
-                  ),
-                  z,
-                )
-            | inr q ↦ absurd (two-one (sym (rw (p, q) at k)))
+                let z = eqb-true _ _ q in
+                rw (p, q) (omega (arith, spread-none e (gapsOf l) z, ltb-true 0 (e .stretch₂) p))
+            | inr q ↦ rw (p, q) (omega (arith, spread-all e (gapsOf l) (eqb-false _ _ q)))
           ]
-      | inr p ↦ absurd (two-one (sym (rw p at k)))
+      | inr p ↦
+          let s : e .stretch₂ ≡ 0 = omega (arith, ltb-false 0 (e .stretch₂) p) in
+          rw p (omega (arith, spread-zero e (gapsOf l) s))
     ]
+
+pub flush-ends : (m x : ℕ) (final : Bool) (l : Run TextUnit) → x + width l ≤ m → lineOf m x final l .kind ≡ 1 →
+    lineOf m x final l .end ≡ m
+flush-ends m x final l h = ends-by-kind m x final l h .0
+
+pub short-ends : (m x : ℕ) (final : Bool) (l : Run TextUnit) → x + width l ≤ m → lineOf m x final l .kind ≡ 2 →
+    (lineOf m x final l .end < m) × (gapsOf l .stretch₂ ≡ 0)
+short-ends m x final l h = ends-by-kind m x final l h .1

@@ -25,12 +25,6 @@ part-eighths eighth a = omega arith
 part-eighths quarter a = omega arith
 part-eighths half a = omega arith
 
-part-none : (f : Fraction) → part f 0 ≡ 0
-part-none no-part = refl
-part-none eighth = refl
-part-none quarter = refl
-part-none half = refl
-
 part-most : (f : Fraction) (s : ℕ) → s ≤ 4000 → part f s ≤ 2000
 part-most no-part s h = omega arith
 part-most eighth s h = omega arith
@@ -40,48 +34,22 @@ part-most half s h = omega arith
 rigid-law : (f g : Fraction) → EntryLaw (entry f g rigid)
 unfolding packed gapBy measured
 rigid-law f g =
-    let left : leftWord (entry f g rigid) ≡ part f 8 = omega (arith, part-none g) in
-    let right : rightWord (entry f g rigid) ≡ part g 8 = omega (arith, part-none f) in
+    let left : leftWord (entry f g rigid) ≡ part f 8 = omega (arith, part-eighths g 0) in
+    let right : rightWord (entry f g rigid) ≡ part g 8 = omega (arith, part-eighths f 0) in
     record {
       word = λ a b w. rw (left, right) (omega (arith, part-eighths f a, part-eighths g b));
-      small = (
-        rw left (omega (arith, part-most f 8 (omega arith))),
-        rw right (omega (arith, part-most g 8 (omega arith))),
-      );
-      packs = λ a b w. record { gives = omega arith; twice = omega arith };
-      at-most =
-          λ l r w h k v.
-          record {
-            space = omega (arith, part-most f l h, part-most g r k);
-            shrink₁ = omega arith;
-            shrink₂ = omega arith;
-            stretch₂ = omega arith;
-          };
+      small = rw (left, right) (omega (arith, part-most f 8 (omega arith), part-most g 8 (omega arith)));
+      packs = omega arith;
+      at-most = λ l r w h k v. omega (arith, part-most f l h, part-most g r k);
     }
 
 early-before : EntryLaw (entry half no-part early)
 unfolding packed gapBy measured
-early-before =
-    record {
-      word = λ a b w. omega arith;
-      small = (omega arith, omega arith);
-      packs = λ a b w. record { gives = omega arith; twice = omega arith };
-      at-most =
-          λ l r w h k v.
-          record { space = omega arith; shrink₁ = omega arith; shrink₂ = omega arith; stretch₂ = omega arith };
-    }
+early-before = omega arith
 
 late-before : EntryLaw (entry quarter no-part late)
 unfolding packed gapBy measured
-late-before =
-    record {
-      word = λ a b w. omega arith;
-      small = (omega arith, omega arith);
-      packs = λ a b w. record { gives = omega arith; twice = omega arith };
-      at-most =
-          λ l r w h k v.
-          record { space = omega arith; shrink₁ = omega arith; shrink₂ = omega arith; stretch₂ = omega arith };
-    }
+late-before = omega arith
 
 -- a space of the right size is like one of the left size
 space-after : (x : Flexibility) (f : Fraction) (l r w : ℕ) →
@@ -111,34 +79,13 @@ Each P [] = Unit {0}
 Each P (e ∷ es) = P e × Each P es
 
 each-at : (P : Entry → Type 0) (es : List Entry) → Each P es → (n : ℕ) → n < length es → P (getD es n solid)
-each-at P [] p n h = let z : ⊥ = omega arith in absurd z
+each-at P [] p n h = absurd (omega arith)
 each-at P (e ∷ es) p zero h = p .0
 each-at P (e ∷ es) p (suc n) h = each-at P es (p .1) n (omega arith)
 
 laws : Each EntryLaw entries
 unfolding entries
-laws = (
-  rigid-law no-part no-part,
-  (
-    rigid-law quarter quarter,
-    (
-      rigid-law half quarter,
-      (
-        rigid-law no-part quarter,
-        (
-          rigid-law quarter no-part,
-          (
-            early-before,
-            (
-              rigid-law half no-part,
-              (after-law early half early-before, (after-law late quarter late-before, (late-before, tt))),
-            ),
-          ),
-        ),
-      ),
-    ),
-  ),
-)
+laws = search (rigid-law, early-before, late-before, after-law early, after-law late) depth 15
 
 pub entry-law : (n : ℕ) → n < 10 → EntryLaw (named n)
 unfolding entries
@@ -148,7 +95,7 @@ entry-law n h = each-at EntryLaw entries laws n h
 words-from : (es : List Entry) (n : ℕ) → n < length es →
     getD (map (λ e. leftWord e ∷ rightWord e ∷ []) es) n []
     ≡ leftWord (getD es n solid) ∷ rightWord (getD es n solid) ∷ []
-words-from [] n h = let z : ⊥ = omega arith in absurd z
+words-from [] n h = absurd (omega arith)
 words-from (e ∷ es) zero h = refl
 words-from (e ∷ es) (suc n) h = words-from es n (omega arith)
 
@@ -159,4 +106,4 @@ words-at n h = words-from entries n h
 -- the first entry takes nothing
 pub solid-taken : (n left right : ℕ) → n ≡ 0 → Taken n left right 0
 unfolding entries packed gapBy measured
-solid-taken n left right z = rw z (record { word = omega arith; small = omega arith })
+solid-taken n left right z = rw z (omega arith)

@@ -3,8 +3,14 @@ use mathlib.Core.Path.{_≡_}
 use Prim.Native.Nat.{ℕ}
 use native.Mathlib.Omega.{arith}
 use mathlib.Core.List.{List, [], _∷_}
+use mathlib.Core.Bool.{Bool, true, false}
+use mathlib.Core.Logic.{inl, inr}
 use mathlib.Core.Option.{none, some}
 pub use Rattle.lists.proofs.Facts.{tested, ordered, true-false}
+
+-- a test that cannot hold fails
+pub unmet : {b : Bool} → (b ≡ true → ⊥) → b ≡ false
+unmet {b} h = elim (tested b) [ inl e ↦ absurd (h e) | inr e ↦ e ]
 
 -- two constructors are never equal
 pub nil-cons : {A : Type 0} {a : A} {bs : List A} → [] ≡ a ∷ bs → ⊥

@@ -1,14 +1,13 @@
 -- The place of the first element that fails a test: it is the first that lacks the property tested, and there is none
 -- exactly where all have it. Assumes nothing.
 use mathlib.Core.Path.{_≡_, refl, sym, ap, _∙_}
-use Prim.Native.Nat.{ℕ, zero, suc, _+_, _-_, _≤_, _<_}
+use Prim.Native.Nat.{ℕ, zero, suc, _+_, _≤_, _<_}
 use native.Mathlib.Omega.{arith}
-use native.Mathlib.Nat.{sub-zero}
 use mathlib.Core.Bool.{Bool, true, false}
 use mathlib.Core.List.{List, [], _∷_, _++_}
 use mathlib.Core.Logic.{inl, inr}
 use mathlib.Core.Option.{none, some}
-use lib.ListN.{length, take, drop}
+use lib.ListN.{length, take, drop, length-append}
 use Rattle.rules.specs.Basics.{firstFailing}
 use Rattle.rules.specs.Meanings.{All, all-none, all-more, FirstLacking}
 use Rattle.rules.proofs.Facts.{tested, true-false, nil-cons, some-none, some-same}
@@ -48,54 +47,54 @@ module _ {A : Type 0} (t : A → Bool) where
   passes-at (all-more {a = c} p h) zero a bs e = let q : c ≡ a = cc in rw (← q) p
   passes-at (all-more p h) (suc k) a bs e = passes-at h k a bs e
 
-  pub fails-within : (i j : ℕ) (ps : List A) → firstFailing t i ps ≡ some j → j < i + length ps
-  unfolding firstFailing
-  fails-within i j [] e = absurd (some-none (sym e))
-  fails-within i j (a ∷ ps) e =
-      elim (tested (t a)) [
-        | inl z ↦ omega (arith, fails-within (suc i) j ps (rw (z, firstFailing) at e))
-        | inr z ↦ let q : i ≡ j = some-same (rw (z, firstFailing) at e) in omega arith
-      ]
-
   -- counted from i, the first that fails stands at j
-  fails-from : (i j : ℕ) (ps : List A) → firstFailing t i ps ≡ some j → (i ≤ j) × FirstLacking Passes ps (j - i)
+  fails-from : (i j : ℕ) (ps : List A) → firstFailing t i ps ≡ some j →
+      (k : ℕ) × (j ≡ i + k) × FirstLacking Passes ps k
   unfolding firstFailing
   fails-from i j [] e = absurd (some-none (sym e))
   fails-from i j (a ∷ ps) e =
       elim (tested (t a)) [
-        | inl z ↦ later z (fails-from (suc i) j ps (rw (z, firstFailing) at e))
-        | inr z ↦ let q : i ≡ j = some-same (rw (z, firstFailing) at e) in (omega arith, here z (omega arith))
+        | inl z ↦
+            let r = fails-from (suc i) j ps (rw (z, firstFailing) at e) in
+            let f = r .2 in (
+              suc (r .0),
+              omega (arith, r .1),
+              record {
+                before = a ∷ f .before;
+                here = f .here;
+                after = f .after;
+                all = ap (λ l. a ∷ l) (f .all);
+                have = all-more z (f .have);
+                lacks = f .lacks;
+                place = omega (arith, f .place);
+              },
+            )
+        | inr z ↦
+            let q : i ≡ j = some-same (rw (z, firstFailing) at e) in (
+              0,
+              omega arith,
+              record {
+                before = [];
+                here = a;
+                after = ps;
+                all = refl;
+                have = all-none;
+                lacks = λ p. true-false (sym p ∙ z);
+                place = refl;
+              },
+            )
       ]
-    where
-      later : t a ≡ true → (suc i ≤ j) × FirstLacking Passes ps (j - suc i) →
-          (i ≤ j) × FirstLacking Passes (a ∷ ps) (j - i)
-      later z f = (
-        omega (arith, f .0),
-        record {
-          before = a ∷ f .1 .before;
-          here = f .1 .here;
-          after = f .1 .after;
-          all = ap (λ l. a ∷ l) (f .1 .all);
-          have = all-more z (f .1 .have);
-          lacks = f .1 .lacks;
-          place = omega (arith, f .0, f .1 .place);
-        },
-      )
-
-      here : t a ≡ false → j - i ≡ 0 → FirstLacking Passes (a ∷ ps) (j - i)
-      here z q =
-          record {
-            before = [];
-            here = a;
-            after = ps;
-            all = refl;
-            have = all-none;
-            lacks = λ p. true-false (sym p ∙ z);
-            place = q;
-          }
 
   pub fails-first : (j : ℕ) (ps : List A) → firstFailing t 0 ps ≡ some j → FirstLacking Passes ps j
-  fails-first j ps e = rw sub-zero at (fails-from 0 j ps e .1)
+  fails-first j ps e =
+      let r = fails-from 0 j ps e in
+      let q : r .0 ≡ j = omega (arith, r .1) in
+      rw q at (r .2)
+
+  pub fails-within : (i j : ℕ) (ps : List A) → firstFailing t i ps ≡ some j → j < i + length ps
+  fails-within i j ps e =
+      let r = fails-from i j ps e in
+      omega (arith, r .1, r .2 .place, simp length-append at (ap length (r .2 .all)))
 
   -- and the first that lacks the property is named
   lacking-at : (i : ℕ) (bs : List A) (a : A) (cs : List A) → All Passes bs → t a ≡ false →

@@ -2,7 +2,7 @@
 use mathlib.Core.Path.{_≡_, sym, _∙_}
 use Prim.Native.Nat.{ℕ, zero, suc, _+_, _≤_, _<_}
 use native.Mathlib.Omega.{arith}
-use native.Mathlib.Nat.{zero-add}
+use native.Mathlib.Nat.{add-zero, zero-add, add-suc, suc-add, add-assoc}
 use mathlib.Core.Bool.{Bool, false}
 use mathlib.Core.List.{List, [], _∷_}
 use mathlib.Core.Logic.{inl, inr}
@@ -16,20 +16,15 @@ first-later : (t : ℕ → ℕ → Bool) (j i : ℕ) (l : Line) (ls : List Line)
     FirstThat (λ k s. t (suc j + k) (i + l .count + s)) ls n → FirstThat (λ k s. t (j + k) (i + s)) (l ∷ ls) (suc n)
 unfolding start
 first-later t j i l ls n e g =
-    let p : j + suc n ≡ suc j + n = omega arith in
-    let q : i + (l .count + start n ls) ≡ i + l .count + start n ls = omega arith in
     record {
       none-before = from;
-      passes = λ h. rw (p, q) (g .passes (omega arith));
+      passes = λ h. rw (add-suc, ← suc-add, ← add-assoc) (g .passes (omega arith));
       within = omega (arith, g .within);
     }
   where
     from : (k : ℕ) → k < suc n → t (j + k) (i + start k (l ∷ ls)) ≡ false
-    from zero h = let p : j + 0 ≡ j = omega arith in let q : i + 0 ≡ i = omega arith in rw (p, q) e
-    from (suc k) h =
-        let p : j + suc k ≡ suc j + k = omega arith in
-        let q : i + (l .count + start k ls) ≡ i + l .count + start k ls = omega arith in
-        rw (p, q) (g .none-before k (omega arith))
+    from zero h = rw (add-zero, add-zero) e
+    from (suc k) h = rw (add-suc, ← suc-add, ← add-assoc) (g .none-before k (omega arith))
 
 first-from : (t : ℕ → ℕ → Bool) (j i : ℕ) (ls : List Line) →
     (n : ℕ) × (firstLine t j i ls ≡ j + n) × FirstThat (λ k s. t (j + k) (i + s)) ls n
@@ -44,15 +39,13 @@ first-from t j i [] = (
   },
 )
 first-from t j i (l ∷ ls) =
-    let p : j + 0 ≡ j = omega arith in
-    let q : i + 0 ≡ i = omega arith in
     elim (tested (t j i)) [
       | inl e ↦ (
         0,
         rw (e, firstLine) (omega arith),
         record {
           none-before = λ k h. absurd (omega arith);
-          passes = λ h. rw (p, q) e;
+          passes = λ h. rw (add-zero, add-zero) e;
           within = omega arith;
         },
       )

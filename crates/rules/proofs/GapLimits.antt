@@ -1,6 +1,6 @@
 -- What the gaps of a line come to, stage by stage. Assumes nothing.
 use mathlib.Core.Path.{_≡_}
-use Prim.Native.Nat.{ℕ, zero, _+_, _-_, _≤_}
+use Prim.Native.Nat.{ℕ, _+_, _-_, _≤_}
 use native.Mathlib.Omega.{arith}
 use native.Mathlib.Nat.{zero-mul, add-zero, sub-self}
 use mathlib.Core.Bool.{Bool}
@@ -14,21 +14,12 @@ use Rattle.rules.specs.Meanings.{GapAt, gap-here, gap-later, WithinLimit
 use Rattle.rules.proofs.Shares.{share-cap, full-share}
 use Rattle.rules.proofs.Ends.{taken}
 
-no-weight : (e c s g : ℕ) → g ≡ 0 → share e c s (s + g) ≡ 0
-no-weight e c s g z = rw (z, add-zero, sub-self)
-
 -- the gaps before one, and the gap, are no more than all
-gap-shrink : {u : TextUnit} {us : List TextUnit} {s g : Gap} → GapAt u us s g →
-    s .shrink₁ + g .shrink₁ ≤ totals u us .shrink₁
+gaps-within : {u : TextUnit} {us : List TextUnit} {s g : Gap} → GapAt u us s g →
+    (s .shrink₁ + g .shrink₁ ≤ totals u us .shrink₁) × (s .stretch₁ + g .stretch₁ ≤ totals u us .stretch₁)
 unfolding totals
-gap-shrink gap-here = omega arith
-gap-shrink (gap-later h) = omega (arith, gap-shrink h)
-
-gap-stretch : {u : TextUnit} {us : List TextUnit} {s g : Gap} → GapAt u us s g →
-    s .stretch₁ + g .stretch₁ ≤ totals u us .stretch₁
-unfolding totals
-gap-stretch gap-here = omega arith
-gap-stretch (gap-later h) = omega (arith, gap-stretch h)
+gaps-within gap-here = omega arith
+gaps-within (gap-later h) = omega (arith, gaps-within h)
 
 not-below : (space a b c d p q : ℕ) → a ≤ p → b ≤ q → space - p - q ≤ (space - a - b) + c + d
 not-below space a b c d p q h k = omega arith
@@ -56,7 +47,7 @@ within-limits m x final l h s g at =
       shrink₁ = a;
       shrink₂ = b;
       stretch₁ = d;
-      stretch₂ = λ z. no-weight (e .stretch₂) (c .stretch₂) (s .stretch₂) (g .stretch₂) z;
+      stretch₂ = λ z. rw (z, add-zero, sub-self);
       low = not-below (g .space) _ _ _ _ _ _ a b;
       high =
           λ z. not-above (g .space) _ _ _ _ _ d
@@ -68,8 +59,8 @@ pub first-stage-full : (m x : ℕ) (final : Bool) (l : Run TextUnit) → x + wid
     FirstStageFull (amountsOf m x final l) (gapsOf l) s g
 first-stage-full m x final l h s g at =
     let t = taken m x final l h in
+    let n = gaps-within at in
     record {
-      shrink = λ p. rw (t .full-shrink p) (full-share (gapsOf l .shrink₁) (s .shrink₁) (g .shrink₁) (gap-shrink at));
-      stretch =
-          λ p. rw (t .full-stretch p) (full-share (gapsOf l .stretch₁) (s .stretch₁) (g .stretch₁) (gap-stretch at));
+      shrink = λ p. rw (t .full-shrink p) (full-share (gapsOf l .shrink₁) (s .shrink₁) (g .shrink₁) (n .0));
+      stretch = λ p. rw (t .full-stretch p) (full-share (gapsOf l .stretch₁) (s .stretch₁) (g .stretch₁) (n .1));
     }

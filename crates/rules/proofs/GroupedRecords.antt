@@ -1,20 +1,18 @@
 -- Bounds: what answer 8 leaves of a record of a group. Assumes nothing.
-use mathlib.Core.Path.{_≡_, sym}
+use mathlib.Core.Path.{_≡_}
 use Prim.Native.Nat.{ℕ, _≤_, _<_}
 use native.Mathlib.Omega.{arith}
-use mathlib.Core.Bool.{true, false, _&&_, and-eq-true-iff}
+use mathlib.Core.Bool.{true}
 use mathlib.Core.List.{List, [], _∷_}
-use mathlib.Core.Logic.{inl, inr}
 use mathlib.Core.Option.{none}
-use lib.Dec.{leb, eqb}
 use borrow.Author.Tests.{eqb-true, ne-eqb}
 use Rattle.rules.specs.Basics.{within, isIn}
 use Rattle.rules.specs.Records.{Rec, sizeOk, advanceKind, advanceOk, groupOk, recOk, badRecord}
-use Rattle.rules.specs.Meanings.{All}
+use Rattle.rules.specs.Meanings.{All, all-none, all-more}
 use Rattle.rules.proofs.FirstFailing.{none-fails}
 use Rattle.rules.proofs.Bounds.{size-bounds}
-use Rattle.rules.proofs.Facts.{tested, true-false}
-use Rattle.rules.proofs.Limits.{asked}
+use Rattle.rules.proofs.Table.{holds-in}
+use Rattle.rules.proofs.Limits.{asked, asked-in-group}
 
 abbrev pub Fine : Rec → Type 0
 Fine r = recOk r ≡ true
@@ -27,18 +25,8 @@ all-fine i rs h = none-fails recOk i rs h
 as-wide : (c s a : ℕ) → isIn c (15 ∷ 16 ∷ 19 ∷ []) ≡ true → advanceOk c s a ≡ true → a ≡ s
 unfolding advanceOk advanceKind
 as-wide c s a e h =
-    elim (tested (eqb c 15)) [
-      | inl p ↦ eqb-true a s (rw (eqb-true c 15 p) at h)
-      | inr p ↦
-          elim (tested (eqb c 16)) [
-            | inl q ↦ eqb-true a s (rw (eqb-true c 16 q) at h)
-            | inr q ↦
-                elim (tested (eqb c 19)) [
-                  | inl z ↦ eqb-true a s (rw (eqb-true c 19 z) at h)
-                  | inr z ↦ let f : false ≡ true = rw (p, q, z) at e in absurd (true-false (sym f))
-                ]
-          ]
-    ]
+    let f = eqb-true a s in
+    holds-in {P = λ k. advanceOk k s a ≡ true → a ≡ s} (all-more f (all-more f (all-more f all-none))) c e h
 
 pub record Grouped (r : Rec) : Type 0 where
   pub size : sizeOk (r .size) ≡ true
@@ -47,17 +35,14 @@ pub record Grouped (r : Rec) : Type 0 where
   pub high : r .advance ≤ 4000
 
 pub in-group : (r : Rec) → Fine r → (r .group ≡ 0 → ⊥) → Grouped r
-unfolding groupOk
 in-group r e h =
     let a = asked r e in
-    let kana = isIn (r .class) (15 ∷ 16 ∷ 19 ∷ []) in
-    let g : leb (r .group) 65535 && within 1 64 (r .ruby) && kana ≡ true = rw (ne-eqb (r .group) 0 h) at (a .group) in
-    let p = and-eq-true-iff (leb (r .group) 65535 && within 1 64 (r .ruby)) kana .0 g in
+    let p = asked-in-group (r .class) (r .group) (r .ruby) (a .group) (ne-eqb (r .group) 0 h) in
     let s = size-bounds (r .size) (a .size) in
     let full = as-wide (r .class) (r .size) (r .advance) (p .1) (a .advance) in
     record {
       size = a .size;
-      ruby = and-eq-true-iff (leb (r .group) 65535) (within 1 64 (r .ruby)) .0 (p .0) .1;
+      ruby = p .0;
       low = omega (arith, s .least);
       high = omega (arith, s .most);
     }

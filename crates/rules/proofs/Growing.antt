@@ -11,7 +11,7 @@ use borrow.Author.Tests.{leb-false, lt-leb}
 use Rattle.rules.specs.Basics.{Run, alone, whole, then, joined, cut}
 use Rattle.rules.specs.Records.{Rec}
 use Rattle.rules.specs.Groups.{TextUnit, sameGroup, units, advances, groupAdvance, advance}
-use Rattle.rules.specs.Breaks.{bound, gap, smallest, width, runs}
+use Rattle.rules.specs.Breaks.{bound, gap, smallest, width}
 use Rattle.rules.specs.Meanings.{Tied, tied-one, tied-more, TiedRun}
 use Rattle.rules.proofs.Cuts.{cut-first}
 use Rattle.rules.proofs.Widths.{wider}
@@ -49,7 +49,7 @@ abbrev pub NoEasier : Run TextUnit → Run TextUnit → Type 0
 NoEasier b c =
     (m x : ℕ) (l : Run TextUnit) → leb (x + width (then l b)) m ≡ false → leb (x + width (then l c)) m ≡ false
 
-grown-no-easier : (b c : Run TextUnit) → Grown (whole b) (whole c) → NoEasier b c
+pub grown-no-easier : (b c : Run TextUnit) → Grown (whole b) (whole c) → NoEasier b c
 grown-no-easier b c g m x l e =
     let w : width (then l b) ≤ width (then l c) = grown-wider (grown-after (whole l) g) in
     let n = leb-false (x + width (then l b)) m e in
@@ -82,29 +82,12 @@ run-grows (tied-more {a = u} {b = w} e h) (grown-more {ks = v ∷ vs} g) =
     record { run = then (alone u) (r .run); others = r .others; all = rw (r .all, d); grown = grown-more (r .grown) }
 
 -- a run b of a paragraph, when other records follow its own: the first run from there on has grown from it
-pub record NextRun (b : Run TextUnit) (es : List Rec) : Type 0 where
-  pub run : Run TextUnit
-  pub others : List (Run TextUnit)
-  pub all : runs (units (joined (whole b) ++ es)) ≡ run ∷ others
-  pub no-easier : NoEasier b run
-
-grown-run : (b : Run TextUnit) (es : List Rec) (v : TextUnit) (vs : List TextUnit) →
-    units (joined (whole b) ++ es) ≡ v ∷ vs → FirstRun (whole b) (v ∷ vs) → NextRun b es
-unfolding runs
-grown-run b es v vs e f =
-    record {
-      run = f .run;
-      others = f .others;
-      all = ap (λ us. cut bound us) e ∙ f .all;
-      no-easier = grown-no-easier b (f .run) (f .grown);
-    }
-
 pub next-run : (b : Run TextUnit) → TiedRun bound b → whole b ≡ units (joined (whole b)) → (es : List Rec) →
-    NextRun b es
+    FirstRun (whole b) (units (joined (whole b) ++ es))
 unfolding units joined
 next-run b h e es =
     let r = b .first .first in
     let rs = b .first .rest ++ joined (b .rest) in
     let f = cut-first sameGroup r (rs ++ es) in
     let g : Grown (whole b) (cut sameGroup (r ∷ rs ++ es)) = rw e (cut-grows sameGroup r rs es) in
-    grown-run b es (f .0) (f .1) (f .2) (run-grows h (rw (f .2) at g))
+    rw (f .2) (run-grows h (rw (f .2) at g))

@@ -20,19 +20,14 @@ use Rattle.rules.proofs.Facts.{true-false}
 abbrev by : Option ℕ → Option ℕ → Option ℕ → Option ℕ → ℕ → Answer
 by p l q r n = orElse 8 p (orElse 12 l (orElse 9 q (orElse 10 r (says 0 n))))
 
-by-0 : (p l q r : Option ℕ) (n : ℕ) → by p l q r n .number ≡ 0 → (r ≡ none) × (by p l q r n ≡ says 0 n)
-by-0 none none none none n e = (refl, refl)
-by-0 none none none (some i) n e = absurd (omega (arith, e))
-by-0 none none (some i) r n e = absurd (omega (arith, e))
-by-0 none (some i) q r n e = absurd (omega (arith, e))
-by-0 (some i) l q r n e = absurd (omega (arith, e))
+-- where 8, 12 and 9 are not due
+last-0 : (r : Option ℕ) (n : ℕ) → by none none none r n .number ≡ 0 → (r ≡ none) × (by none none none r n ≡ says 0 n)
+last-0 none n e = (refl, refl)
+last-0 (some i) n e = absurd (omega (arith, e))
 
-by-10 : (p l q r : Option ℕ) (n : ℕ) → by p l q r n .number ≡ 10 → r ≡ some (by p l q r n .place)
-by-10 none none none none n e = absurd (omega (arith, e))
-by-10 none none none (some i) n e = refl
-by-10 none none (some i) r n e = absurd (omega (arith, e))
-by-10 none (some i) q r n e = absurd (omega (arith, e))
-by-10 (some i) l q r n e = absurd (omega (arith, e))
+last-10 : (r : Option ℕ) (n : ℕ) → by none none none r n .number ≡ 10 → r ≡ some (by none none none r n .place)
+last-10 none n e = absurd (omega (arith, e))
+last-10 (some i) n e = refl
 
 by-12 : (p l q r : Option ℕ) (n : ℕ) → by p l q r n .number ≡ 12 → (p ≡ none) × (l ≡ some (by p l q r n .place))
 by-12 none none none none n e = absurd (omega (arith, e))
@@ -66,7 +61,9 @@ module _ (m x : ℕ) (rs : List Rec) where
   pub judged-0 : judged m x rs .number ≡ 0 →
       (noBreaking m x (units rs) ≡ none) × (judged m x rs ≡ says 0 (length (compose m x (units rs))))
   unfolding judged
-  judged-0 e = by-0 (badRecord 0 rs) (notListed 0 rs) (groupFault rs) _ _ e
+  judged-0 e =
+      let p = judged-passes 0 refl e in
+      rw (p .records, p .listed, p .groups) (last-0 _ _ (rw (p .records, p .listed, p .groups) at e))
 
   -- an accepted paragraph is answered by its line count
   pub line-count : (p : ℕ) → judged m x rs ≡ says 0 p → p ≡ length (compose m x (units rs))
@@ -81,4 +78,6 @@ module _ (m x : ℕ) (rs : List Rec) where
 
   pub judged-10 : judged m x rs .number ≡ 10 → noBreaking m x (units rs) ≡ some (judged m x rs .place)
   unfolding judged
-  judged-10 e = by-10 (badRecord 0 rs) (notListed 0 rs) (groupFault rs) _ _ e
+  judged-10 e =
+      let p = judged-passes 10 refl e in
+      rw (p .records, p .listed, p .groups) (last-10 _ _ (rw (p .records, p .listed, p .groups) at e))

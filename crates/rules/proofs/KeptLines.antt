@@ -30,10 +30,7 @@ lines-start m x (l ∷ ls) (suc j) = omega (arith, lines-start m 0 ls j, counts-
 pub all-held : (m x : ℕ) (rs : List Rec) → start (length (compose m x (units rs))) (compose m x (units rs)) ≡ length rs
 unfolding compose
 all-held m x rs =
-    let ls = broken m x rs in
-    lines-start m x ls (length (linesOf m x ls))
-    ∙ ap (λ ks. counts (joined ks)) (ap (λ n. take n ls) (length-linesOf m x ls) ∙ take-length ls)
-    ∙ ap (λ us. counts us) (breaking-choice m x (units rs) .joins-up) ∙ counts-units rs
+    rw (lines-start, length-linesOf, take-length, breaking-choice m x (units rs) .joins-up, counts-units)
 
 lines-drop : (m x : ℕ) (ls : List (Run TextUnit)) (n : ℕ) →
     drop (suc n) (linesOf m x ls) ≡ linesOf m 0 (drop (suc n) ls)
@@ -51,23 +48,18 @@ lines-front m x (l ∷ []) k j ks js = refl
 lines-front m x (l ∷ i ∷ ls) k j ks js = ap (λ ls. lineOf m x false l ∷ ls) (lines-front m 0 (i ∷ ls) k j ks js)
 
 -- the lines from a line's start on
-lines-after : (m x : ℕ) (rs : List Rec) (n : ℕ) → LineAt m x rs (suc n) →
-    drop (suc n) (linesOf m x (broken m x rs))
-    ≡ linesOf m 0 (broken m 0 (drop (start (suc n) (linesOf m x (broken m x rs))) rs))
-lines-after m x rs n a =
-    let ls = broken m x rs in
-    let qs = joined (whole (a .run)) ++ a .others in
-    let d : drop (start (suc n) (linesOf m x ls)) rs ≡ qs =
-    ap (λ i. drop i rs) (lines-start m x ls (suc n) ∙ sym (a .size)) ∙ ap (λ ss. drop (length (a .prior)) ss) (a .all)
-    ∙ drop-append-seam (a .prior) qs in
-    lines-drop m x ls n ∙ ap (λ ls. linesOf m 0 ls) (a .after ∙ ap (λ ss. broken m 0 ss) (sym d))
-
 pub lines-from : (m x : ℕ) (rs : List Rec) (n : ℕ) → 1 ≤ n → n < length (compose m x (units rs)) →
     drop n (compose m x (units rs)) ≡ compose m 0 (units (drop (start n (compose m x (units rs))) rs))
 unfolding compose
 lines-from m x rs zero g h = absurd (omega arith)
 lines-from m x rs (suc n) g h =
-    lines-after m x rs n (line-at m x rs n (omega (arith, length-linesOf m x (broken m x rs))))
+    let ls = broken m x rs in
+    let a = line-at m x rs n (omega (arith, length-linesOf m x ls)) in
+    let qs = joined (whole (a .run)) ++ a .others in
+    let d : drop (start (suc n) (linesOf m x ls)) rs ≡ qs =
+    ap (λ i. drop i rs) (lines-start m x ls (suc n) ∙ sym (a .size)) ∙ ap (λ ss. drop (length (a .prior)) ss) (a .all)
+    ∙ drop-append-seam (a .prior) qs in
+    lines-drop m x ls n ∙ ap (λ ls. linesOf m 0 ls) (a .after ∙ ap (λ ss. broken m 0 ss) (sym d))
 
 -- the lines before a line stay, whatever records follow its first run
 same-before : (m x : ℕ) (rs : List Rec) (n : ℕ) (a : LineAt m x rs n) → n ≤ length (broken m x rs) → (es : List Rec) →
@@ -83,26 +75,20 @@ same-before m x rs n a h es =
     let c : length ls ≡ n = length-take-le n (broken m x rs) h in
     let f : take n (linesOf m x (ls ++ k .0 ∷ k .1)) ≡ take n (linesOf m x (ls ++ j .0 ∷ j .1)) =
     rw c at (lines-front m x ls (k .0) (j .0) (k .1) (j .1)) in
-    ap (λ ks. take n (linesOf m x ks)) (a .before es ∙ ap (λ ks. ls ++ ks) (k .2)) ∙ f
-    ∙ ap (λ ks. take n (linesOf m x ks))
-    (sym (ap (λ ss. broken m x ss) (a .all) ∙ a .before (a .others) ∙ ap (λ ks. ls ++ ks) (j .2)))
+    let old : broken m x rs ≡ ls ++ j .0 ∷ j .1 =
+    ap (λ ss. broken m x ss) (a .all) ∙ a .before (a .others) ∙ ap (λ ks. ls ++ ks) (j .2) in
+    rw (a .before es, k .2) f ∙ ap (λ ks. take n (linesOf m x ks)) (sym old)
 
 -- so they stay where an edit's place is no earlier than the line's end
-kept-before : (m x : ℕ) (rs : List Rec) (place deleted : ℕ) (new : List Rec) (n : ℕ) (a : LineAt m x rs n) →
-    n ≤ length (broken m x rs) → counts (joined (take (suc n) (broken m x rs))) ≤ place →
-    take n (linesOf m x (broken m x (splice rs place deleted new))) ≡ take n (linesOf m x (broken m x rs))
-kept-before m x rs place deleted new n a h g =
-    let bs = joined (whole (a .run)) in
-    let s = splice-before (a .prior) bs (a .others) place deleted new (omega (arith, a .holds)) in
-    ap (λ ss. take n (linesOf m x (broken m x ss))) (ap (λ ss. splice ss place deleted new) (a .all) ∙ s .1)
-    ∙ same-before m x rs n a h (s .0)
-
 pub lines-kept : (m x : ℕ) (rs : List Rec) (place deleted : ℕ) (new : List Rec) (n : ℕ) →
     suc n < length (compose m x (units rs)) → start (suc (suc n)) (compose m x (units rs)) ≤ place →
     take (suc n) (compose m x (units (splice rs place deleted new))) ≡ take (suc n) (compose m x (units rs))
 unfolding compose
 lines-kept m x rs place deleted new n h g =
     let c = length-linesOf m x (broken m x rs) in
-    let d : suc n < length (broken m x rs) = omega arith in
-    kept-before m x rs place deleted new (suc n) (line-at m x rs n d) (omega arith)
-    (omega (arith, lines-start m x (broken m x rs) (suc (suc n))))
+    let d = lines-start m x (broken m x rs) (suc (suc n)) in
+    let a = line-at m x rs n (omega arith) in
+    let bs = joined (whole (a .run)) in
+    let s = splice-before (a .prior) bs (a .others) place deleted new (omega (arith, a .holds)) in
+    ap (λ ss. take (suc n) (linesOf m x (broken m x ss))) (ap (λ ss. splice ss place deleted new) (a .all) ∙ s .1)
+    ∙ same-before m x rs (suc n) a (omega arith) (s .0)

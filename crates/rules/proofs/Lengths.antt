@@ -1,6 +1,6 @@
 -- How many words a paragraph's places and lines are. Assumes nothing.
 use mathlib.Core.Path.{_≡_, refl, ap, _∙_}
-use mathlib.Core.List.{List, [], _∷_, map}
+use mathlib.Core.List.{List, [], _∷_}
 use mathlib.Core.Bool.{Bool}
 use Prim.Native.Nat.{ℕ, suc, _+_, _*_, _≤_}
 use native.Mathlib.Omega.{arith}
@@ -32,13 +32,8 @@ unfolding placed counts
 length-placed e c s x u [] = omega (arith, length-map (baseOffsets u) (λ o. x + o), length-baseOffsets u)
 length-placed e c s x u (v ∷ us) =
     let g = gap u v in
-    length-append (map (λ o. x + o) (baseOffsets u)) _
-    ∙ omega (
-      arith,
-      length-map (baseOffsets u) (λ o. x + o),
-      length-baseOffsets u,
-      length-placed e c (plus s g) (x + advance u + adjusted e c s g) v us,
-    )
+    let more = length-placed e c (plus s g) (x + advance u + adjusted e c s g) v us in
+    simp (length-append, length-map) (omega (arith, length-baseOffsets u))
 
 pub length-xs : (m x : ℕ) (final : Bool) (l : Run TextUnit) → length (lineOf m x final l .xs) ≡ counts (whole l)
 unfolding lineOf
@@ -54,15 +49,9 @@ pub length-placeWords : (m x i : ℕ) (ls : List (Run TextUnit)) →
 unfolding placeWords linesOf joined counts
 length-placeWords m x i [] = refl
 length-placeWords m x i (l ∷ ls) =
-    length-append (placesOf i (lineOf m x (isEmpty ls) l .xs)) _
-    ∙ omega (
-      arith,
-      length-placesOf i (lineOf m x (isEmpty ls) l .xs),
-      length-xs m x (isEmpty ls) l,
-      length-placeWords
-          m 0 (suc i) ls,
-      counts-append (whole l) (joined ls),
-    )
+    let more = length-placeWords m 0 (suc i) ls in
+    let all = counts-append (whole l) (joined ls) in
+    simp (length-append, length-placesOf) (omega (arith, length-xs m x (isEmpty ls) l))
 
 pub length-lineWords : (f : ℕ) (ls : List Line) → length (lineWords f ls) ≡ 3 * length ls
 unfolding lineWords
@@ -92,9 +81,7 @@ counts-units rs = counts-joined (units rs) ∙ ap length (cut-joined sameGroup r
 module _ (m x : ℕ) (rs : List Rec) where
   pub composed-places : length (placeWords 0 (compose m x (units rs))) ≡ 2 * length rs
   unfolding compose
-  composed-places =
-      length-placeWords m x 0 _ ∙ ap (λ us. 2 * counts us) (breaking-choice m x (units rs) .joins-up)
-      ∙ ap (λ n. 2 * n) (counts-units rs)
+  composed-places = rw (length-placeWords, breaking-choice m x (units rs) .joins-up, counts-units)
 
   pub composed-lines : length (lineWords 0 (compose m x (units rs))) ≡ 3 * length (compose m x (units rs))
   composed-lines = length-lineWords 0 _
@@ -103,10 +90,5 @@ module _ (m x : ℕ) (rs : List Rec) where
   unfolding compose
   composed-few =
       let ls = breaking m x (runs (units rs)) in
-      omega (
-        arith,
-        length-linesOf m x ls,
-        lines-few ls,
-        ap (λ us. counts us) (breaking-choice m x (units rs) .joins-up),
-        counts-units rs,
-      )
+      let held = ap (λ us. counts us) (breaking-choice m x (units rs) .joins-up) ∙ counts-units rs in
+      omega (arith, length-linesOf m x ls, lines-few ls)

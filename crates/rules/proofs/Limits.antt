@@ -1,8 +1,8 @@
 -- Bounds: what answer 8 leaves of records. Assumes nothing.
-use mathlib.Core.Path.{_≡_, refl, sym}
+use mathlib.Core.Path.{_≡_}
 use Prim.Native.Nat.{ℕ, _*_, _/_, _≤_}
 use native.Mathlib.Omega.{arith}
-use mathlib.Core.Bool.{Bool, true, false, _&&_}
+use mathlib.Core.Bool.{Bool, true, false, _&&_, and-eq-true-iff}
 use mathlib.Core.List.{List, [], _∷_}
 use mathlib.Core.Logic.{inl, inr}
 use mathlib.Core.Option.{none}
@@ -16,7 +16,7 @@ use Rattle.rules.specs.Sides.{sideBy}
 use Rattle.rules.specs.Values.{SideOk}
 use Rattle.rules.proofs.FirstFailing.{none-fails, passes-at}
 use Rattle.rules.proofs.Bounds.{within-high, size-bounds}
-use Rattle.rules.proofs.Facts.{tested, true-false}
+use Rattle.rules.proofs.Facts.{tested}
 
 pub record RecordBounds (r : Rec) : Type 0 where
   pub size : r .size ≤ 4000
@@ -24,12 +24,10 @@ pub record RecordBounds (r : Rec) : Type 0 where
   pub ruby : r .ruby ≤ 64
 
 pub and-left : (a b : Bool) → a && b ≡ true → a ≡ true
-and-left true b e = refl
-and-left false b e = e
+and-left a b e = and-eq-true-iff a b .0 e .0
 
 pub and-right : (a b : Bool) → a && b ≡ true → b ≡ true
-and-right true b e = e
-and-right false b e = absurd (true-false (sym e))
+and-right a b e = and-eq-true-iff a b .0 e .1
 
 advance-bound : (k : AdvanceKind) (s a : ℕ) → advanceFits k s a ≡ true → a ≤ 2 * s
 advance-bound half-size s a e = omega (arith, eqb-true a (s / 2) e)
@@ -37,14 +35,20 @@ advance-bound to-size s a e = omega (arith, within-high 1 s a e)
 advance-bound to-twice s a e = omega (arith, within-high 1 (2 * s) a e)
 advance-bound full-size s a e = omega (arith, eqb-true a s e)
 
+-- what is asked of a record of a group
+pub asked-in-group : (c g n : ℕ) → groupOk c g n ≡ true → eqb g 0 ≡ false →
+    (within 1 64 n ≡ true) × (isIn c (15 ∷ 16 ∷ 19 ∷ []) ≡ true)
+unfolding groupOk
+asked-in-group c g n e z =
+    let both = and-eq-true-iff (leb g 65535 && within 1 64 n) (isIn c (15 ∷ 16 ∷ 19 ∷ [])) .0 (rw z at e) in
+    (and-right (leb g 65535) (within 1 64 n) (both .0), both .1)
+
 ruby-bound : (c g n : ℕ) → groupOk c g n ≡ true → n ≤ 64
 unfolding groupOk
 ruby-bound c g n e =
     elim (tested (eqb g 0)) [
       | inl z ↦ omega (arith, eqb-true n 0 (rw z at e))
-      | inr z ↦
-          let f : leb g 65535 && within 1 64 n && isIn c (15 ∷ 16 ∷ 19 ∷ []) ≡ true = rw z at e in
-          within-high 1 64 n (and-right (leb g 65535) (within 1 64 n) (and-left _ (isIn c (15 ∷ 16 ∷ 19 ∷ [])) f))
+      | inr z ↦ within-high 1 64 n (asked-in-group c g n e z .0)
     ]
 
 -- what is asked of a record's class, size, advance and group
@@ -57,26 +61,19 @@ pub record Asked (r : Rec) : Type 0 where
 pub asked : (r : Rec) → recOk r ≡ true → Asked r
 unfolding recOk
 asked r e =
-    let grouped = groupOk (r .class) (r .group) (r .ruby) in
-    let advanced = advanceOk (r .class) (r .size) (r .advance) in
-    let coded = codeOk (r .code) && classOk (r .class) in
-    let all₃ : coded && sizeOk (r .size) && advanced ≡ true = and-left _ grouped e in
-    let all₂ : coded && sizeOk (r .size) ≡ true = and-left _ advanced all₃ in
-    record {
-      class = and-right (codeOk (r .code)) (classOk (r .class)) (and-left coded (sizeOk (r .size)) all₂);
-      size = and-right coded (sizeOk (r .size)) all₂;
-      advance = and-right (coded && sizeOk (r .size)) advanced all₃;
-      group = and-right (coded && sizeOk (r .size) && advanced) grouped e;
-    }
+    let g = and-eq-true-iff _ (groupOk (r .class) (r .group) (r .ruby)) .0 e in
+    let a = and-eq-true-iff _ (advanceOk (r .class) (r .size) (r .advance)) .0 (g .0) in
+    let s = and-eq-true-iff _ (sizeOk (r .size)) .0 (a .0) in
+    let c = and-eq-true-iff (codeOk (r .code)) (classOk (r .class)) .0 (s .0) in
+    record { class = c .1; size = s .1; advance = a .1; group = g .1 }
 
 pub record-bounds : (r : Rec) → recOk r ≡ true → RecordBounds r
 unfolding advanceOk
 record-bounds r e =
     let q = asked r e in
-    let s = size-bounds (r .size) (q .size) .most in
     let a = advance-bound (advanceKind (r .class)) (r .size) (r .advance) (q .advance) in
     let n = ruby-bound (r .class) (r .group) (r .ruby) (q .group) in
-    record { size = s; advance = omega arith; ruby = n }
+    omega (arith, size-bounds (r .size) (q .size) .most)
 
 -- and what its neighbours see of it
 pub side-ok : (r : Rec) → recOk r ≡ true → SideOk (sideBy r)

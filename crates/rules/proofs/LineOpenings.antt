@@ -2,16 +2,16 @@
 -- alone. Assumes nothing.
 use mathlib.Core.Path.{_≡_, refl, sym}
 use Prim.Native.Nat.{ℕ}
-use mathlib.Core.Bool.{Bool, true, false, not, _&&_, _||_, and-eq-true-iff}
+use mathlib.Core.Bool.{Bool, true, not, _&&_, _||_, and-eq-true-iff}
 use mathlib.Core.List.{List, [], _∷_}
 use mathlib.Core.Logic.{inl, inr}
-use lib.Dec.{leb, eqb}
+use lib.Dec.{eqb}
 use borrow.Author.Tests.{eqb-true}
 use Rattle.lists.specs.Ranges.{hasCode}
 use Rattle.lists.specs.Lists.{ClassList, list, lists, inLists, inList}
 use Rattle.lists.proofs.Claims.{in-list-means}
-use Rattle.rules.specs.Basics.{isIn, within, joined}
-use Rattle.rules.specs.Records.{Rec, groupOk}
+use Rattle.rules.specs.Basics.{isIn, joined}
+use Rattle.rules.specs.Records.{Rec}
 use Rattle.rules.specs.Listed.{barred}
 use Rattle.rules.specs.Sides.{Side, sideBy, forbidden}
 use Rattle.rules.specs.Groups.{TextUnit, sameGroup, units, side}
@@ -23,7 +23,8 @@ use Rattle.rules.proofs.Judged.{judged-passes}
 use Rattle.rules.proofs.Listed.{all-listed}
 use Rattle.rules.proofs.Parts.{all-back, apart-where}
 use Rattle.rules.proofs.Cuts.{cut-joined}
-use Rattle.rules.proofs.Limits.{and-right, asked}
+use Rattle.rules.proofs.Table.{all-at}
+use Rattle.rules.proofs.Limits.{asked, asked-in-group}
 use Rattle.rules.proofs.GroupedRecords.{Fine, all-fine}
 use Rattle.rules.proofs.Breaking.{breaking-choice}
 
@@ -36,13 +37,12 @@ barred-in : (c k : ℕ) (ls : List ClassList) → allBarred k ls ≡ true → in
 barred-in c k [] e h = absurd (true-false (sym h))
 barred-in c k (list n rs ∷ ls) e h =
     let both = and-eq-true-iff (not (hasCode k rs) || barred n) (allBarred k ls) .0 e in
-    cases (eqb c n) refl (hasCode k rs) (both .0) (barred-in c k ls (both .1)) h
-  where
-    cases : (s : Bool) → eqb c n ≡ s → (t : Bool) → (not t || barred n) ≡ true →
-        (inLists c k ls ≡ true → barred c ≡ true) → ((s && t) || inLists c k ls) ≡ true → barred c ≡ true
-    cases true p true b rest h = rw (eqb-true c n p) b
-    cases true p false b rest h = rest h
-    cases false p t b rest h = rest h
+    elim (tested (eqb c n && hasCode k rs)) [
+      | inl e ↦
+          let q = and-eq-true-iff (eqb c n) (hasCode k rs) .0 e in
+          rw (eqb-true c n (q .0)) (rw (q .1) at (both .0))
+      | inr e ↦ barred-in c k ls (both .1) (rw e at h)
+    ]
 
 pub never-opens-by : (k : ℕ) → allBarred k lists ≡ true → NeverOpens k
 unfolding inList
@@ -61,29 +61,16 @@ bars l r e = rw e
 -- the classes of groups are not barred
 groups-open : (c : ℕ) → isIn c (15 ∷ 16 ∷ 19 ∷ []) ≡ true → barred c ≡ true → ⊥
 groups-open c e b =
-    elim (tested (eqb c 15)) [
-      | inl p ↦ true-false (sym (rw (eqb-true c 15 p) at b))
-      | inr p ↦
-          elim (tested (eqb c 16)) [
-            | inl q ↦ true-false (sym (rw (eqb-true c 16 q) at b))
-            | inr q ↦
-                elim (tested (eqb c 19)) [
-                  | inl o ↦ true-false (sym (rw (eqb-true c 19 o) at b))
-                  | inr o ↦ true-false (sym (rw (p, q, o) at e))
-                ]
-          ]
-    ]
+    true-false (sym (rw b at (all-at (λ k. not (barred k)) (15 ∷ 16 ∷ 19 ∷ []) refl c e)))
 
 -- so a record of a barred class is in no group, and counts as its own class
 ungrouped : (r : Rec) → Fine r → barred (r .class) ≡ true → eqb (r .group) 0 ≡ true
-unfolding groupOk
 ungrouped r f b =
     elim (tested (eqb (r .group) 0)) [
       | inl e ↦ e
       | inr e ↦
-          let g : leb (r .group) 65535 && within 1 64 (r .ruby) && isIn (r .class) (15 ∷ 16 ∷ 19 ∷ []) ≡ true =
-          rw e at (asked r f .group) in
-          absurd (groups-open (r .class) (and-right (leb (r .group) 65535 && within 1 64 (r .ruby)) _ g) b)
+          let p = asked-in-group (r .class) (r .group) (r .ruby) (asked r f .group) e in
+          absurd (groups-open (r .class) (p .1) b)
     ]
 
 -- a record that keeps its rules and is listed

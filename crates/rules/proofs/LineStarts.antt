@@ -18,7 +18,7 @@ use Rattle.rules.proofs.Breaking.{filled-first}
 use Rattle.rules.proofs.NoBreaking.{counts-append}
 use Rattle.rules.proofs.Lengths.{counts-joined}
 use Rattle.rules.proofs.Parts.{all-first, all-back, cut-before, cut-after, cut-front}
-use Rattle.rules.proofs.Growing.{bound-alike, next-run}
+use Rattle.rules.proofs.Growing.{bound-alike, grown-no-easier, next-run}
 use Rattle.rules.proofs.Stops.{Stops, stops-filled, stops-joined, StopAt, stop-at, filled-holds}
 
 -- the lines of records, as stretches of units
@@ -35,9 +35,7 @@ module _ (rs : List Rec) (l next : Run TextUnit) (taken others : List (Run TextU
 
   records-parts : rs ≡ joined (joined (l ∷ taken)) ++ (joined (whole next) ++ joined (joined others))
   records-parts =
-      sym (cut-joined sameGroup rs) ∙ ap (λ us. joined us) units-parts
-      ∙ joined-append (joined (l ∷ taken)) (whole next ++ joined others)
-      ∙ ap (λ ss. joined (joined (l ∷ taken)) ++ ss) (joined-append (whole next) (joined others))
+      sym (cut-joined sameGroup rs) ∙ ap (λ us. joined us) units-parts ∙ rw (joined-append, joined-append (whole next))
 
   later-units : whole next ++ joined others ≡ cut sameGroup (joined (whole next ++ joined others))
   later-units = cut-after sameGroup rs (joined (l ∷ taken)) (whole next ++ joined others) units-parts
@@ -53,8 +51,7 @@ module _ (rs : List Rec) (l next : Run TextUnit) (taken others : List (Run TextU
   unfolding joined
   later-runs =
       cut-after bound (cut sameGroup rs) (l ∷ taken) (next ∷ others) e
-      ∙ ap (λ us. cut bound us)
-      (later-units ∙ ap (λ ss. cut sameGroup ss) (joined-append (whole next) (joined others)))
+      ∙ ap (λ us. cut bound us) (later-units ∙ rw (joined-append (whole next)))
 
   -- whatever records follow the run `next`, the runs before it stay
   front-runs : (es : List Rec) →
@@ -82,7 +79,7 @@ module _ (rs : List Rec) (l next : Run TextUnit) (taken others : List (Run TextU
   front-lines m x ls s es =
       let n = next-run next next-tied next-units es in
       ap (λ js. breaking m x js) (front-runs es ∙ ap (λ js. (l ∷ taken) ++ js) (n .all))
-      ∙ stops-filled s (n .run) (n .others) (n .no-easier)
+      ∙ stops-filled s (n .run) (n .others) (grown-no-easier next (n .run) (n .grown))
       ∙ ap (λ js. ls ++ breaking m 0 js) (sym (n .all))
 
 -- Line n of a paragraph of records: where it starts, and the run it starts with --------------------------------------
@@ -104,11 +101,7 @@ pub record LineAt (m x : ℕ) (rs : List Rec) (n : ℕ) : Type 0 where
 -- a line more
 one-more : (n : ℕ) (ls : List (Run TextUnit)) →
     counts (joined (take (suc n) ls)) ≡ counts (joined (take n ls)) + counts (joined (take 1 (drop n ls)))
-one-more n ls =
-    ap (λ i. counts (joined (take i ls))) (sym (add-one n))
-    ∙ ap (λ ks. counts (joined ks)) (take-add n 1 ls)
-    ∙ ap (λ us. counts us) (joined-append (take n ls) (take 1 (drop n ls)))
-    ∙ counts-append (joined (take n ls)) (joined (take 1 (drop n ls)))
+one-more n ls = rw (← add-one n, take-add, joined-append, counts-append)
 
 stop-line : (m x : ℕ) (rs : List Rec) (l : Run TextUnit) (ks : List (Run TextUnit)) (n : ℕ) →
     cut bound (cut sameGroup rs) ≡ l ∷ ks → StopAt m x l ks n → LineAt m x rs n

@@ -1,5 +1,5 @@
 -- Each line of the breaking is the longest. Assumes nothing.
-use mathlib.Core.Path.{_≡_, ap, sym, _∙_}
+use mathlib.Core.Path.{_≡_, refl, ap, sym, _∙_}
 use Prim.Native.Nat.{ℕ, _+_, _<_}
 use native.Mathlib.Omega.{arith}
 use native.Mathlib.Nat.{le-trans}
@@ -11,19 +11,18 @@ use borrow.Author.Tests.{leb-false}
 use Rattle.rules.specs.Basics.{Run, alone, whole, then, joined}
 use Rattle.rules.specs.Groups.{TextUnit}
 use Rattle.rules.specs.Breaks.{bound, width, runs, filled, breaking}
-use Rattle.rules.specs.Meanings.{All, all-more, Tied, tied-one, tied-more, TiedRun}
+use Rattle.rules.specs.Meanings.{All, all-more, lastIn, Tied, tied-one, tied-more, TiedRun}
 use Rattle.rules.specs.Meanings.{EndsWell, at-end, at-break, Longest, longest-none, longest-more}
-use Rattle.rules.proofs.Facts.{tested, true-false, nil-cons, cons-path}
+use Rattle.rules.proofs.Facts.{tested, true-false, nil-cons}
 use Rattle.rules.proofs.Cuts.{cut-tied}
 use Rattle.rules.proofs.Widths.{wider}
 use Rattle.rules.proofs.Breaking.{filled-joined}
 
 -- each line is the longest
 
-ends-shorter : {u v : TextUnit} {us vs : List TextUnit} → EndsWell (record { first = u; rest = v ∷ us }) vs →
-    EndsWell (record { first = v; rest = us }) vs
-ends-shorter at-end = at-end
-ends-shorter (at-break {v = w} e) = at-break {v = w} e
+pub ends-alike : {l k : Run TextUnit} {vs : List TextUnit} → lastIn l ≡ lastIn k → EndsWell l vs → EndsWell k vs
+ends-alike p at-end = at-end
+ends-alike {k = k} p (at-break {v = v} e) = at-break {l = k} {v = v} (rw (← p) e)
 
 ends-inside : {u v t : TextUnit} {us vs : List TextUnit} → bound u v ≡ true → t ≡ u → vs ≡ v ∷ us →
     EndsWell (alone t) vs → ⊥
@@ -38,16 +37,15 @@ holds-run : (u : TextUnit) (us : List TextUnit) → Tied bound u us →
     (rest : List TextUnit) (t : TextUnit) (ts vs : List TextUnit) →
     t ∷ ts ++ vs ≡ u ∷ us ++ rest → EndsWell (record { first = t; rest = ts }) vs → (ss : List TextUnit) ×
     (t ∷ ts ≡ u ∷ us ++ ss)
-holds-run u [] tied-one rest t ts vs e w = (ts, let p : t ≡ u = cc in rw p)
+holds-run u [] tied-one rest t ts vs e w = (ts, (cc))
 holds-run u (v ∷ us) (tied-more b h) rest t [] vs e w =
     let p : t ≡ u = cc in
     let q : vs ≡ v ∷ us ++ rest = cc in
     absurd (ends-inside b p q w)
 holds-run u (v ∷ us) (tied-more b h) rest t (s ∷ ts) vs e w =
-    let p : t ≡ u = cc in
     let q : s ∷ ts ++ vs ≡ v ∷ us ++ rest = cc in
-    let r = holds-run v us h rest s ts vs q (ends-shorter w) in
-    (r .0, cons-path p (r .1))
+    let r = holds-run v us h rest s ts vs q (ends-alike refl w) in
+    (r .0, cc (r .1))
 
 -- a line that does not fit with the next run does not fit with any longer stretch that may end it
 next-too-wide : (m x : ℕ) (l k : Run TextUnit) (ks : List (Run TextUnit)) → TiedRun bound k →

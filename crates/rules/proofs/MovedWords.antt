@@ -3,7 +3,8 @@
 use mathlib.Core.Path.{_≡_, refl, ap, sym, _∙_}
 use Prim.Native.Nat.{ℕ, zero, suc, _+_, _*_, _-_}
 use native.Mathlib.Omega.{arith}
-use native.Mathlib.Nat.{zero-add}
+use native.Mathlib.Nat.{add-zero, zero-add, add-suc, suc-add, add-assoc, mul-suc}
+use native.Mathlib.Numerals.{add-three}
 use mathlib.Core.List.{List, [], _∷_, _++_}
 use mathlib.Core.Logic.{inl, inr}
 use lib.ListN.{length, take, drop, drop-of-length-le}
@@ -24,19 +25,14 @@ use Rattle.rules.proofs.Lengths.{length-xs, length-placesOf}
 lines-take : (n i : ℕ) (ls : List Line) → take (3 * n) (lineWords i ls) ≡ lineWords i (take n ls)
 unfolding lineWords
 lines-take zero i ls = refl
-lines-take (suc n) i [] = let e : 3 * suc n ≡ suc (suc (suc (3 * n))) = omega arith in rw e
-lines-take (suc n) i (l ∷ ls) =
-    let e : 3 * suc n ≡ suc (suc (suc (3 * n))) = omega arith in
-    rw e (ap (λ ws. i ∷ l .end ∷ l .kind ∷ ws) (lines-take n (i + l .count) ls))
+lines-take (suc n) i [] = rw (mul-suc, add-three)
+lines-take (suc n) i (l ∷ ls) = rw (mul-suc, add-three, lines-take n (i + l .count) ls)
 
 lines-drop : (n i : ℕ) (ls : List Line) → drop (3 * n) (lineWords i ls) ≡ lineWords (i + start n ls) (drop n ls)
 unfolding lineWords start
-lines-drop zero i ls = let e : i + 0 ≡ i = omega arith in rw e
-lines-drop (suc n) i [] = let e : 3 * suc n ≡ suc (suc (suc (3 * n))) = omega arith in rw e
-lines-drop (suc n) i (l ∷ ls) =
-    let e : 3 * suc n ≡ suc (suc (suc (3 * n))) = omega arith in
-    let f : i + (l .count + start n ls) ≡ i + l .count + start n ls = omega arith in
-    rw (e, f) (lines-drop n (i + l .count) ls)
+lines-drop zero i ls = rw add-zero
+lines-drop (suc n) i [] = rw (mul-suc, add-three)
+lines-drop (suc n) i (l ∷ ls) = rw (mul-suc, add-three, ← add-assoc) (lines-drop n (i + l .count) ls)
 
 -- a line has an x for each of its records
 abbrev Counted : Line → Type 0
@@ -60,13 +56,12 @@ places-take (suc n) i (all-more {a = l} {bs = ls} h hs) =
 places-drop : (n i : ℕ) {ls : List Line} → All Counted ls →
     drop (2 * start n ls) (placeWords i ls) ≡ placeWords (i + n) (drop n ls)
 unfolding placeWords start
-places-drop zero i h = let e : i + 0 ≡ i = omega arith in rw e
+places-drop zero i h = rw add-zero
 places-drop (suc n) i all-none = refl
 places-drop (suc n) i (all-more {a = l} {bs = ls} h hs) =
     let ws = placesOf i (l .xs) in
     let e : 2 * (l .count + start n ls) ≡ length ws + 2 * start n ls = omega (arith, length-placesOf i (l .xs)) in
-    let f : i + suc n ≡ suc i + n = omega arith in
-    rw (e, f) (drop-append-add ws (placeWords (suc i) ls) (2 * start n ls) ∙ places-drop n (suc i) hs)
+    rw (e, add-suc, ← suc-add) (drop-append-add ws (placeWords (suc i) ls) (2 * start n ls) ∙ places-drop n (suc i) hs)
 
 -- Words of lines that move -------------------------------------------------------------------------------------------
 
@@ -89,8 +84,7 @@ places-moved : (a d i j : ℕ) (ls : List Line) → j + d ≡ i + a → placeWor
 unfolding placeWords movedPlaces
 places-moved a d i j [] e = refl
 places-moved a d i j (l ∷ ls) e =
-    ap (λ ws. placesOf j (l .xs) ++ ws) (places-moved a d (suc i) (suc j) ls (omega arith))
-    ∙ sym (line-places-moved a d i j (l .xs) (placeWords (suc i) ls) e)
+    rw (line-places-moved a d i j (l .xs) _ e, places-moved a d (suc i) (suc j) ls (omega arith))
 
 -- The promise --------------------------------------------------------------------------------------------------------
 
@@ -122,19 +116,12 @@ module _ (f r deleted inserted : ℕ) (old new : List Line)
       let p : start f new ≡ start f old =
       sym (start-take f new) ∙ ap (λ ls. start f ls) (s .before) ∙ start-take f old in
       record {
-        lines-before = lines-take f 0 new ∙ ap (λ ls. lineWords 0 ls) (s .before) ∙ sym (lines-take f 0 old);
-        places-before =
-            ap (λ i. take (2 * i) (placeWords 0 new)) (sym p) ∙ places-take f 0 d
-            ∙ ap (λ ls. placeWords 0 ls) (s .before) ∙ sym (places-take f 0 c);
-        lines-after =
-            lines-drop r 0 new ∙ ap (λ i. lineWords i (drop r new)) (zero-add (start r new)) ∙ later-lines
-            ∙ ap (λ ws. movedLines inserted deleted ws)
-            (sym (lines-drop (s .again) 0 old
-            ∙ ap (λ i. lineWords i (drop (s .again) old)) (zero-add (start (s .again) old))));
+        lines-before = rw (lines-take, lines-take, s .before);
+        places-before = rw (places-take f 0 c, ← p, places-take f 0 d, s .before);
+        lines-after = rw (lines-drop r, zero-add, lines-drop (s .again), zero-add) later-lines;
         places-after =
-            places-drop r 0 d ∙ ap (λ ls. placeWords (0 + r) ls) (s .after)
-            ∙ places-moved r (s .again) (0 + s .again) (0 + r) (drop (s .again) old) (omega arith)
-            ∙ ap (λ ws. movedPlaces r (s .again) ws) (sym (places-drop (s .again) 0 c));
+            rw (places-drop r 0 d, s .after, places-drop (s .again) 0 c)
+            (places-moved r (s .again) (0 + s .again) (0 + r) (drop (s .again) old) (omega arith));
       }
 
 -- of any two paragraphs in one measure

@@ -11,9 +11,7 @@ use borrow.Author.Tests.{leb-true, leb-false}
 use Rattle.rules.specs.Basics.{Run, whole, joined}
 use Rattle.rules.specs.Groups.{TextUnit, counts}
 use Rattle.rules.specs.Breaks.{width, runs, wideRun, noBreaking, breaking}
-use Rattle.rules.specs.Meanings.{Choice, Fits, fits-none, fits-more}
-use Rattle.rules.specs.Meanings.{startOf}
-use Rattle.rules.specs.Meanings.{FirstWide}
+use Rattle.rules.specs.Meanings.{Choice, Fits, fits-none, fits-more, startOf, FirstWide}
 use Rattle.rules.proofs.Facts.{tested, some-none, some-same}
 use Rattle.rules.proofs.Breaking.{fit-runs, choice-runs, breaking-choice, lines-fit}
 

@@ -7,9 +7,8 @@ use mathlib.Core.List.{List, [], _∷_, _++_}
 use mathlib.Core.Logic.{inl, inr}
 use lib.ListN.{take, drop}
 use Rattle.rules.specs.Basics.{Run, whole, joined, tie, cut}
-use Rattle.rules.specs.Meanings.{All, all-none, all-more, lastIn, Apart, apart-none, apart-one}
-use Rattle.rules.specs.Meanings.{apart-more}
-use Rattle.rules.proofs.Facts.{tested, true-false, cons-path}
+use Rattle.rules.specs.Meanings.{All, all-none, all-more, lastIn, Apart, apart-none, apart-one, apart-more}
+use Rattle.rules.proofs.Facts.{tested, true-false, unmet, cons-path}
 use Rattle.rules.proofs.Cuts.{joined-append, cut-joined, cut-tied, cut-apart, cut-tail, maximal-only, cut-first}
 
 -- of lists one after the other
@@ -51,12 +50,7 @@ apart-where s t f h apart-none = apart-none
 apart-where s t f h apart-one = apart-one
 apart-where s t f h (apart-more {l = l} {k = k} {ls = ls} e hs) =
     let g = all-back (whole l) (joined (k ∷ ls)) h in
-    let unmet : t (lastIn l) (k .first) ≡ false =
-    elim (tested (t (lastIn l) (k .first))) [
-      | inl p ↦ absurd (true-false (sym (f (lastIn l) (k .first) (all-first g) p) ∙ e))
-      | inr p ↦ p
-    ] in
-    apart-more unmet (apart-where s t f g hs)
+    apart-more (unmet (λ p. true-false (sym (f (lastIn l) (k .first) (all-first g) p) ∙ e))) (apart-where s t f g hs)
 
 -- runs that grew at their end: the last of them has further elements, and further runs follow it
 pub data Grown {A : Type 0} : List (Run A) → List (Run A) → Type 0 where
@@ -117,9 +111,7 @@ module _ {A : Type 0} (t : A → A → Bool) where
   tie-grown : (a : A) {ls ks : List (Run A)} → Grown ls ks → Grown (tie t a ls) (tie t a ks)
   tie-grown a (grown-last {l} {k} es p q) =
       elim (tested (t a (l .first))) [
-        | inl e ↦
-            let d : t a (k .first) ≡ true = ap (λ b. t a b) p ∙ e in
-            rw (e, d) (grown-last es refl (cons-path p q))
+        | inl e ↦ rw (p, e) (grown-last es refl (cons-path refl q))
         | inr e ↦
             let d : t a (k .first) ≡ false = ap (λ b. t a b) p ∙ e in
             rw (e, d) (grown-more (grown-last es p q))

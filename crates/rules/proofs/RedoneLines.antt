@@ -82,19 +82,13 @@ module _ (m x : ℕ) (rs : List Rec) (place deleted : ℕ) (ins : List Rec) (fit
   abbrev new : List Line
   new = compose m x (units (splice rs place deleted ins))
 
-  stable-around : StableAround (firstRedone place old) (resumed place deleted (length ins) old new) deleted (length ins)
-      old new
-  stable-around =
-      stable place deleted (length ins) old new
-      (lines-before m x rs place deleted ins (firstRedone place old) refl)
-      (lines-again m x rs place deleted ins fits)
-
   pub edit-stable :
       StableEdit place deleted (length ins) old new (usedBy old) (usedBy new)
       (report place deleted (length ins) old new)
   unfolding report
   edit-stable =
-      let s = stable-around in
+      let before = lines-before m x rs place deleted ins (firstRedone place old) refl in
+      let s = stable place deleted (length ins) old new before (lines-again m x rs place deleted ins fits) in
       record {
         lines = s;
         words = composed-words-stable m x rs (splice rs place deleted ins) _ _ deleted (length ins) s;

@@ -1,8 +1,8 @@
 -- Document 02, request 03: the test of r, said without it, and who has r. Assumes nothing.
-use mathlib.Core.Path.{_≡_, refl, sym}
+use mathlib.Core.Path.{_≡_, sym}
 use Prim.Native.Nat.{ℕ, zero, suc, _+_, _-_, _≤_, _<_}
 use native.Mathlib.Omega.{arith}
-use mathlib.Core.Bool.{Bool, true, false, _&&_}
+use mathlib.Core.Bool.{true, false, and-eq-true-iff}
 use mathlib.Core.List.{List, [], _∷_}
 use mathlib.Core.Logic.{inl, inr, _↔_}
 use lib.Dec.{leb, eqb}
@@ -12,7 +12,7 @@ use Rattle.rules.specs.Basics.{isIn}
 use Rattle.rules.specs.Adjustment.{Line}
 use Rattle.rules.specs.Redone.{starts, start, firstRedone, resumes, resumed}
 use Rattle.rules.specs.Stable.{Resumes}
-use Rattle.rules.proofs.Facts.{tested, true-false}
+use Rattle.rules.proofs.Facts.{tested, true-false, unmet}
 use Rattle.rules.proofs.FirstLines.{resumed-first, first-only}
 
 -- a number among the starts of lines is the start of one of them
@@ -35,7 +35,7 @@ is-start q i (l ∷ ls) h =
 start-in : (q i : ℕ) (ls : List Line) (n : ℕ) → n < length ls → q ≡ i + start n ls → isIn q (starts i ls) ≡ true
 unfolding starts start
 start-in q i [] n h e = absurd (omega arith)
-start-in q i (l ∷ ls) zero h e = let f : eqb q i ≡ true = eq-eqb q i (omega arith) in rw f
+start-in q i (l ∷ ls) zero h e = rw (eq-eqb q i (omega arith))
 start-in q i (l ∷ ls) (suc n) h e =
     elim (tested (eqb q i)) [
       | inl f ↦ rw f
@@ -58,23 +58,18 @@ later-in q old zero g h e = absurd (omega arith)
 later-in q [] (suc n) g h e = absurd (omega arith)
 later-in q (l ∷ ls) (suc n) g h e = start-in q (0 + l .count) ls n (omega arith) (omega arith)
 
-four : (a b c d : Bool) → a && b && c && d ≡ true → (a ≡ true) × (b ≡ true) × (c ≡ true) × (d ≡ true)
-four true true true d e = (refl, refl, refl, e)
-four true true false d e = absurd (true-false (sym e))
-four true false c d e = absurd (true-false (sym e))
-four false b c d e = absurd (true-false (sym e))
-
 -- the test of r, said without it
 module _ (place deleted inserted : ℕ) (old : List Line) (j i : ℕ) where
   resumes-means : resumes place deleted inserted old j i ≡ true → Resumes place deleted inserted old j i
   resumes-means h =
-      let t : (leb (firstRedone place old) j ≡ true) × (leb 1 j ≡ true) × (leb (place + inserted) i ≡ true)
-      × (isIn (i - inserted + deleted) (drop 1 (starts 0 old)) ≡ true) = four _ _ _ _ h in
-      let s = later-start (i - inserted + deleted) old (t .3) in
-      let p = leb-true (place + inserted) i (t .2) in
+      let t₃ = and-eq-true-iff _ (isIn (i - inserted + deleted) (drop 1 (starts 0 old))) .0 h in
+      let t₂ = and-eq-true-iff _ (leb (place + inserted) i) .0 (t₃ .0) in
+      let t₁ = and-eq-true-iff (leb (firstRedone place old) j) (leb 1 j) .0 (t₂ .0) in
+      let s = later-start (i - inserted + deleted) old (t₃ .1) in
+      let p = leb-true (place + inserted) i (t₂ .1) in
       record {
-        from-f = leb-true (firstRedone place old) j (t .0);
-        from-1 = leb-true 1 j (t .1);
+        from-f = leb-true (firstRedone place old) j (t₁ .0);
+        from-1 = leb-true 1 j (t₁ .1);
         past = p;
         again = s .0;
         numbered = s .1;
@@ -84,12 +79,12 @@ module _ (place deleted inserted : ℕ) (old : List Line) (j i : ℕ) where
 
   means-resumes : Resumes place deleted inserted old j i → resumes place deleted inserted old j i ≡ true
   means-resumes s =
-      let p = le-leb (firstRedone place old) j (s .from-f) in
-      let n = le-leb 1 j (s .from-1) in
-      let r = le-leb (place + inserted) i (s .past) in
-      let q : i - inserted + deleted ≡ start (s .again) old = omega (arith, s .past, s .same) in
-      let t = later-in (i - inserted + deleted) old (s .again) (s .numbered) (s .there) q in
-      rw (p, n, r, t)
+      rw (
+        le-leb (firstRedone place old) j (s .from-f),
+        le-leb 1 j (s .from-1),
+        le-leb (place + inserted) i (s .past),
+        later-in (i - inserted + deleted) old (s .again) (s .numbered) (s .there) (omega arith),
+      )
 
   pub resumes-exactly : (resumes place deleted inserted old j i ≡ true) ↔ Resumes place deleted inserted old j i
   resumes-exactly = (resumes-means, means-resumes)
@@ -97,11 +92,7 @@ module _ (place deleted inserted : ℕ) (old : List Line) (j i : ℕ) where
 module _ (place deleted inserted : ℕ) (old new : List Line) where
   pub not-resumed : (j i : ℕ) → (Resumes place deleted inserted old j i → ⊥) →
       resumes place deleted inserted old j i ≡ false
-  not-resumed j i h =
-      elim (tested (resumes place deleted inserted old j i)) [
-        | inl e ↦ absurd (h (resumes-exactly place deleted inserted old j i .0 e))
-        | inr e ↦ e
-      ]
+  not-resumed j i h = unmet (λ e. h (resumes-exactly place deleted inserted old j i .0 e))
 
   -- whoever has passed all lines, or found one that resumes, has r
   pub none-found : (n : ℕ) → length new ≤ n →

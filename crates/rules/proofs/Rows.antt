@@ -13,7 +13,7 @@ use Rattle.rules.specs.Basics.{isIn}
 use Rattle.rules.specs.Records.{classes, classOk, placeIn, rowOf, advanceKind}
 use Rattle.rules.specs.Records.{AdvanceKind, half-size, to-size, to-twice, full-size, advanceFits}
 use Rattle.rules.specs.Values.{kindNumber, kindNumbered, entryOf, classTable}
-use Rattle.rules.proofs.Facts.{ordered}
+use Rattle.rules.proofs.Facts.{tested, ordered}
 use Rattle.rules.proofs.Table.{tabled-at, allOf, all-at}
 
 -- a kind of advance and its number
@@ -50,18 +50,16 @@ abbrev pub leastOf : ℕ → ℕ → ℕ
 leastOf k most = cond (eqb k 1 || eqb k 2) 1 most
 
 leb-both : (a b : ℕ) → (leb b a && leb a b) ≡ eqb a b
-leb-both a b = cases (eqb a b) refl
-  where
-    cases : (t : Bool) → eqb a b ≡ t → (leb b a && leb a b) ≡ t
-    cases true e = let q = eqb-true a b e in rw (le-leb b a (omega arith), le-leb a b (omega arith))
-    cases false e =
-        elim (ordered a b) [
-          | inl h ↦ rw (lt-leb b a h)
-          | inr h ↦
-              let n = eqb-false a b e in
-              let l : b < a = omega (arith, n) in
-              rw (le-leb b a h, lt-leb a b l)
-        ]
+leb-both a b =
+    elim (tested (eqb a b)) [
+      | inl e ↦ let q = eqb-true a b e in rw (e, le-leb b a (omega arith), le-leb a b (omega arith))
+      | inr e ↦
+          let n = eqb-false a b e in
+          elim (ordered a b) [
+            | inl h ↦ rw (e, lt-leb b a h)
+            | inr h ↦ rw (e, le-leb b a h, lt-leb a b (omega (arith, n)))
+          ]
+    ]
 
 pub fits-between : (k s a : ℕ) →
     (leb (leastOf k (mostOf k s)) a && leb a (mostOf k s)) ≡ advanceFits (kindNumbered k) s a
@@ -99,11 +97,11 @@ entry-past c h =
 -- a number is in a list where its place there is below the list's length
 placeIn-below : (c : ℕ) (ks : List ℕ) → isIn c ks ≡ ltb (placeIn c ks) (length ks)
 placeIn-below c [] = refl
-placeIn-below c (k ∷ ks) = cases (eqb c k) (placeIn c ks) (length ks) (isIn c ks) (placeIn-below c ks)
-  where
-    cases : (t : Bool) (i n : ℕ) (b : Bool) → b ≡ ltb i n → (t || b) ≡ ltb (cond t 0 (suc i)) (suc n)
-    cases true i n b e = sym (lt-ltb 0 (suc n) (omega arith))
-    cases false i n b e = rw leb·suc-suc e
+placeIn-below c (k ∷ ks) =
+    elim (tested (eqb c k)) [
+      | inl e ↦ rw (e, lt-ltb 0 (suc (length ks)) (omega arith))
+      | inr e ↦ rw (e, leb·suc-suc) (placeIn-below c ks)
+    ]
 
 pub classOk-row : (c : ℕ) → classOk c ≡ ltb (rowOf c) 18
 unfolding classOk classes rowOf

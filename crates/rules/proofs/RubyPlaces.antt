@@ -4,7 +4,7 @@ use mathlib.Core.Path.{_≡_, refl, sym, _∙_}
 use Prim.Native.Nat.{ℕ, suc, _*_, _≤_, _<_}
 use native.Mathlib.Omega.{arith}
 use mathlib.Core.Bool.{true}
-use mathlib.Core.List.{List, [], _∷_, _++_}
+use mathlib.Core.List.{List, [], _∷_}
 use mathlib.Core.Logic.{inl, inr}
 use mathlib.Core.Option.{none}
 use lib.ListN.{length, drop}
@@ -16,6 +16,7 @@ use Rattle.rules.specs.Groups.{rubyPlace}
 use Rattle.rules.specs.Refusals.{judged}
 use Rattle.rules.specs.Meanings.{All, all-none, all-more, OneUnit, single, grouped, RubyPlaced}
 use Rattle.rules.proofs.Cuts.{cut-joined, units-one}
+use Rattle.rules.proofs.Parts.{all-front, all-back, all-first}
 use Rattle.rules.proofs.Facts.{tested}
 use Rattle.rules.proofs.Judged.{judged-passes}
 use Rattle.rules.proofs.GroupLimits.{headCount, units-few}
@@ -29,9 +30,6 @@ Few u = count u ≤ 16
 
 abbrev FineUnit : TextUnit → Type 0
 FineUnit u = All Fine (whole u)
-
-all-head : {P : Rec → Type 0} {r : Rec} {rs : List Rec} → All P (r ∷ rs) → P r
-all-head (all-more h hs) = h
 
 -- every record of a unit whose first one is of a group
 all-grouped : {u : TextUnit} → OneUnit u → FineUnit u → (u .first .group ≡ 0 → ⊥) → All Grouped (whole u)
@@ -51,19 +49,19 @@ unit-placed : (u : TextUnit) → OneUnit u → FineUnit u → Few u → RubyPlac
 unfolding rubyPlace
 unit-placed u one fine few =
     record {
-      some-ruby = λ n. within-low 1 64 (u .first .ruby) (all-head (all-grouped one fine n) .ruby);
+      some-ruby = λ n. within-low 1 64 (u .first .ruby) (all-first (all-grouped one fine n) .ruby);
       within-limits = limits;
       offset = λ k h. rw (limits k h);
     }
   where
     limits : (k : ℕ) → k < u .first .ruby → rubyOk (baseTotal u) (u .first .ruby) (u .first .size) k ≡ true
     limits k h =
-        let all = all-grouped one fine (has-group (u .first) (all-head fine) (omega arith)) in
+        let all = all-grouped one fine (has-group (u .first) (all-first fine) (omega arith)) in
         rw (
-          all-head all .size,
-          all-head all .ruby,
+          all-first all .size,
+          all-first all .ruby,
           lt-ltb k (u .first .ruby) h,
-          le-leb 1 (baseTotal u) (unfold advances in omega (arith, all-head all .low)),
+          le-leb 1 (baseTotal u) (unfold advances in omega (arith, all-first all .low)),
           le-leb (baseTotal u) 64000 (omega (arith, sum-high all)),
         )
 
@@ -72,11 +70,8 @@ unit-placed u one fine few =
 all-joined : (us : List TextUnit) → All Fine (joined us) → All FineUnit us
 unfolding joined
 all-joined [] h = all-none
-all-joined (u ∷ us) h = let p = split (whole u) h in all-more (p .0) (all-joined us (p .1))
-  where
-    split : (rs : List Rec) {qs : List Rec} → All Fine (rs ++ qs) → All Fine rs × All Fine qs
-    split [] h = (all-none, h)
-    split (r ∷ rs) (all-more h hs) = let p = split rs hs in (all-more h (p .0), p .1)
+all-joined (u ∷ us) h =
+    all-more (all-front (whole u) (joined us) h) (all-joined us (all-back (whole u) (joined us) h))
 
 all-few : (rs : List Rec) → ((k : ℕ) → headCount (units (drop k rs)) ≤ 16) → All Few (units rs)
 unfolding units cut

@@ -3,7 +3,7 @@ use mathlib.Core.Path.{_≡_, refl}
 use Prim.Native.Nat.{ℕ, zero, suc, _+_, _*_, _/_, _≤_, _<_}
 use native.Mathlib.Omega.{arith}
 use native.Mathlib.Nat.{le-refl, le-trans, div-zero, zero-div, div-mul-le-self, le-div-iff-mul-le, add-mul-div-right}
-use native.Mathlib.Nat.{mul-div-left, mul-le-mul-left, mul-add, mul-comm, mul-zero}
+use native.Mathlib.Nat.{mul-div-left, mul-div-right, mul-le-mul-left, mul-add, mul-comm, mul-zero}
 use mathlib.Core.List.{List, [], _∷_}
 use Rattle.rules.specs.Groups.{TextUnit, advance}
 use Rattle.rules.specs.Gaps.{Gap}
@@ -13,9 +13,7 @@ use Rattle.rules.proofs.Widths.{gives}
 
 pub div-mono : (a b c : ℕ) → a ≤ b → a / c ≤ b / c
 div-mono a b zero h = rw (div-zero, div-zero) (le-refl _)
-div-mono a b (suc c) h =
-    let pos : zero < suc c = omega arith in
-    le-div-iff-mul-le pos .1 (le-trans (div-mul-le-self a (suc c)) h)
+div-mono a b (suc c) h = le-div-iff-mul-le {k = suc c} (omega arith) .1 (le-trans (div-mul-le-self a (suc c)) h)
 
 -- a share is never negative
 pub share-up : (e c s g : ℕ) → e * s / c ≤ e * (s + g) / c
@@ -33,17 +31,14 @@ share-cap e (suc c) s g h =
 pub shared-out : (e c : ℕ) → e ≤ c → e * c / c ≡ e
 shared-out zero zero h = refl
 shared-out (suc e) zero h = omega arith
-shared-out e (suc c) h = let pos : 0 < suc c = omega arith in mul-div-left e pos
+shared-out e (suc c) h = mul-div-left e (omega arith)
 
 -- a full stage gives each gap its capacity
 pub full-share : (c s g : ℕ) → s + g ≤ c → share c c s (s + g) ≡ g
 full-share zero s g h = omega (arith, div-zero (zero * (s + g)), div-zero (zero * s))
 full-share (suc c) s g h =
     let pos : 0 < suc c = omega arith in
-    omega (arith, mul-comm (suc c) (s + g), mul-comm (suc c) s, whole (s + g), whole s)
-  where
-    whole : (n : ℕ) → suc c * n / suc c ≡ n
-    whole n = let pos : 0 < suc c = omega arith in rw (mul-comm (suc c) n) (mul-div-left n pos)
+    omega (arith, mul-div-right (s + g) pos, mul-div-right s pos)
 
 pub none-yet : (e c : ℕ) → e * 0 / c ≡ 0
 none-yet e c = rw (mul-zero, zero-div)

@@ -1,7 +1,8 @@
 -- A slot's words: how many there are, and what is read back from them. Assumes nothing.
 use mathlib.Core.Path.{_≡_, refl, sym, ap, _∙_}
 use Prim.Native.Nat.{ℕ, zero, suc, _+_, _-_, _*_, _/_, _≤_, _<_}
-use native.Mathlib.Nat.{add-zero}
+use native.Mathlib.Nat.{add-zero, mul-suc}
+use native.Mathlib.Numerals.{add-three}
 use native.Mathlib.Omega.{arith}
 use mathlib.Core.List.{List, [], _∷_, _++_, append-assoc, append-nil}
 use lib.ListN.{length, getD, set, take, drop, length-append}
@@ -12,8 +13,7 @@ use Rattle.rules.specs.Groups.{units}
 use Rattle.rules.specs.Breaks.{runs, breaking}
 use Rattle.rules.specs.Adjustment.{Line, linesOf, compose}
 use Rattle.rules.specs.Sheet.{Setting, setting, withUse, placeWords, lineWords, head, slotWords, fresh}
-use Rattle.rules.specs.Sheet.{clinicOf, measureOf, indentOf, inUseOf, settingOf, countOf, lineCountOf}
-use Rattle.rules.specs.Sheet.{recordsOf}
+use Rattle.rules.specs.Sheet.{clinicOf, measureOf, indentOf, inUseOf, settingOf, countOf, lineCountOf, recordsOf}
 use Rattle.rules.specs.Pool.{emptied}
 use Rattle.rules.specs.Redone.{start}
 use Rattle.rules.specs.Stable.{usedBy, usedOf, AsRuled}
@@ -59,8 +59,7 @@ unfolding lineWords start
 line-first i [] j h = absurd (omega arith)
 line-first i (l ∷ ls) zero h = omega arith
 line-first i (l ∷ ls) (suc j) h =
-    let e : 3 * suc j ≡ suc (suc (suc (3 * j))) = omega arith in
-    rw e (omega (arith, line-first (i + l .count) ls j (omega arith)))
+    rw (mul-suc, add-three) (omega (arith, line-first (i + l .count) ls j (omega arith)))
 
 -- A slot ------------------------------------------------------------------------------------------------------------
 
@@ -115,9 +114,7 @@ module _ (t : Setting) (rs : List Rec) where
   slot-records =
       let rest : List ℕ = zeros (1536 - length (recordWords rs)) in
       let parts : slotWords t rs ≡ first ++ (recordWords rs ++ (rest ++ (third ++ fourth)))
-      = append-assoc (first ++ second) third fourth
-      ∙ append-assoc first second (third ++ fourth)
-      ∙ ap (λ l. first ++ l) (append-assoc (recordWords rs) rest (third ++ fourth)) in
+      = simp append-assoc in
       ap (λ w. records (drop 8 w) 0 (length rs)) parts ∙ records-of-words rs (rest ++ (third ++ fourth))
 
   module _ (few : length rs ≤ 256) where
@@ -148,8 +145,7 @@ module _ (t : Setting) (rs : List Rec) where
     slot-places =
         let rest : List ℕ = zeros (512 - length (placeWords 0 lines)) in
         let parts : slotWords t rs ≡ (first ++ second) ++ (placeWords 0 lines ++ (rest ++ fourth))
-        = append-assoc (first ++ second) third fourth
-        ∙ ap (λ l. (first ++ second) ++ l) (append-assoc (placeWords 0 lines) rest fourth) in
+        = simp append-assoc in
         let two : length (first ++ second) ≡ 1544 = length-append first second ∙ omega (arith, length-second) in
         ap (λ w. take (2 * length rs) (drop 1544 w)) parts
         ∙ ap (take (2 * length rs)) (drop-at (first ++ second) (placeWords 0 lines ++ (rest ++ fourth)) 1544 two)

@@ -4,7 +4,7 @@ use Prim.Native.Nat.{ℕ, _+_, _-_, _≤_}
 use native.Mathlib.Omega.{arith}
 use mathlib.Core.List.{List, _++_, append-assoc}
 use lib.ListN.{length, take, drop}
-use lib.Seq.{take-at, length-take-le, take-append-add, drop-append-add, drop-drop}
+use lib.Seq.{length-take-le, take-append-add, drop-append-add, drop-drop}
 use Rattle.rules.specs.Records.{Rec}
 use Rattle.rules.specs.Refusals.{splice}
 
@@ -18,16 +18,9 @@ splice-after rs place deleted new i h g =
     let w = i - (place + length new) in
     let p : i ≡ length ps + (length new + w) = omega (arith, length-take-le place rs (omega arith)) in
     let q : place + deleted + w ≡ i - length new + deleted = omega arith in
-    ap (λ j. drop j (ps ++ (new ++ qs))) p ∙ drop-append-add ps (new ++ qs) (length new + w)
-    ∙ drop-append-add new qs w ∙ drop-drop w (place + deleted) rs ∙ ap (λ j. drop j rs) q
+    ap (λ j. drop j (ps ++ (new ++ qs))) p ∙ rw (drop-append-add, drop-append-add, drop-drop, q)
 
 -- records before the place stay
-pub splice-front : (rs : List Rec) (place deleted : ℕ) (new : List Rec) → place ≤ length rs →
-    take place (splice rs place deleted new) ≡ take place rs
-unfolding splice
-splice-front rs place deleted new h =
-    take-at (take place rs) (new ++ drop (place + deleted) rs) place (length-take-le place rs h)
-
 pub splice-before : (ps bs qs : List Rec) (place deleted : ℕ) (new : List Rec) → length ps + length bs ≤ place →
     (es : List Rec) × (splice (ps ++ (bs ++ qs)) place deleted new ≡ ps ++ (bs ++ es))
 unfolding splice
@@ -36,9 +29,5 @@ splice-before ps bs qs place deleted new h =
     let p : place ≡ length ps + (length bs + w) = omega arith in
     let es = new ++ drop (place + deleted) (ps ++ (bs ++ qs)) in
     let t : take place (ps ++ (bs ++ qs)) ≡ ps ++ (bs ++ take w qs) =
-    ap (λ j. take j (ps ++ (bs ++ qs))) p ∙ take-append-add ps (bs ++ qs) (length bs + w)
-    ∙ ap (λ ss. ps ++ ss) (take-append-add bs qs w) in (
-      take w qs ++ es,
-      ap (λ ss. ss ++ es) t ∙ append-assoc ps (bs ++ take w qs) es
-          ∙ ap (λ ss. ps ++ ss) (append-assoc bs (take w qs) es),
-    )
+    ap (λ j. take j (ps ++ (bs ++ qs))) p ∙ rw (take-append-add, take-append-add) in
+    (take w qs ++ es, ap (λ ss. ss ++ es) t ∙ rw (append-assoc, append-assoc))

@@ -48,43 +48,18 @@ pub record StopAt (m x : ℕ) (l : Run TextUnit) (ks : List (Run TextUnit)) (n :
   pub stops : Stops m x l taken next (take n (filled m x l ks))
   pub after : drop n (filled m x l ks) ≡ filled m 0 next others
 
-module _ (m x : ℕ) (l k : Run TextUnit) (ks : List (Run TextUnit)) (n : ℕ) where
-  -- the run k is in the first line, or starts the second
-  stop-fits : leb (x + width (then l k)) m ≡ true → StopAt m x (then l k) ks n → StopAt m x l (k ∷ ks) n
-  unfolding filled
-  stop-fits e s =
-      record {
-        taken = k ∷ s .taken;
-        next = s .next;
-        others = s .others;
-        all = ap (λ ks. k ∷ ks) (s .all);
-        stops = rw (e, filled) (stops-fits e (s .stops));
-        after = rw (e, filled) (s .after);
-      }
-
-  stop-next : leb (x + width (then l k)) m ≡ false → StopAt m 0 k ks n → StopAt m x l (k ∷ ks) (suc n)
-  unfolding filled
-  stop-next e s =
-      record {
-        taken = k ∷ s .taken;
-        next = s .next;
-        others = s .others;
-        all = ap (λ ks. k ∷ ks) (s .all);
-        stops = rw (e, filled) (stops-next e (s .stops));
-        after = rw (e, filled) (s .after);
-      }
-
-stop-here : (m x : ℕ) (l k : Run TextUnit) (ks : List (Run TextUnit)) → leb (x + width (then l k)) m ≡ false →
-    StopAt m x l (k ∷ ks) 1
-unfolding filled
-stop-here m x l k ks e =
+-- with a run k more before: it is in the first line, or starts the second
+stop-more : {m x y : ℕ} {l j k : Run TextUnit} {ks : List (Run TextUnit)} {n i : ℕ} (s : StopAt m y j ks i) →
+    Stops m x l (k ∷ s .taken) (s .next) (take n (filled m x l (k ∷ ks))) →
+    drop n (filled m x l (k ∷ ks)) ≡ drop i (filled m y j ks) → StopAt m x l (k ∷ ks) n
+stop-more {k} s f g =
     record {
-      taken = [];
-      next = k;
-      others = ks;
-      all = refl;
-      stops = rw (e, filled) (stops-here e);
-      after = rw (e, filled);
+      taken = k ∷ s .taken;
+      next = s .next;
+      others = s .others;
+      all = ap (λ ks. k ∷ ks) (s .all);
+      stops = f;
+      after = g ∙ s .after;
     }
 
 pub stop-at : (m x : ℕ) (l : Run TextUnit) (ks : List (Run TextUnit)) (n : ℕ) → suc n < length (filled m x l ks) →
@@ -93,15 +68,27 @@ unfolding filled
 stop-at m x l [] n h = absurd (omega arith)
 stop-at m x l (k ∷ ks) n h =
     elim (tested (leb (x + width (then l k)) m)) [
-      | inl e ↦ stop-fits m x l k ks (suc n) e (stop-at m x (then l k) ks n (rw (e, filled) at h))
+      | inl e ↦
+          let s = stop-at m x (then l k) ks n (rw (e, filled) at h) in
+          stop-more s (rw (e, filled) (stops-fits e (s .stops))) (rw (e, filled))
       | inr e ↦ from (λ i. stop-at m 0 k ks i) n e (rw (e, filled) at h)
     ]
   where
     from : ((i : ℕ) → suc i < length (filled m 0 k ks) → StopAt m 0 k ks (suc i)) →
         (n : ℕ) → leb (x + width (then l k)) m ≡ false → suc n < length (l ∷ filled m 0 k ks) →
         StopAt m x l (k ∷ ks) (suc n)
-    from later zero e h = stop-here m x l k ks e
-    from later (suc n) e h = stop-next m x l k ks (suc n) e (later n (omega arith))
+    from later zero e h =
+        record {
+          taken = [];
+          next = k;
+          others = ks;
+          all = refl;
+          stops = rw (e, filled) (stops-here e);
+          after = rw (e, filled);
+        }
+    from later (suc n) e h =
+        let s = later n (omega arith) in
+        stop-more s (rw (e, filled) (stops-next e (s .stops))) (rw (e, filled))
 
 -- the first line that l and the runs ks fill holds l
 pub filled-holds : (m x : ℕ) (l : Run TextUnit) (ks : List (Run TextUnit)) →

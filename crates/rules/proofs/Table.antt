@@ -12,6 +12,7 @@ use lib.ListN.{getD}
 use borrow.Author.Tests.{eqb-true}
 use Rattle.rules.specs.Basics.{isIn, tabled}
 use Rattle.rules.specs.Records.{placeIn}
+use Rattle.rules.specs.Meanings.{All, all-none, all-more}
 use Rattle.rules.proofs.Facts.{tested, true-false}
 
 tabled-from : {A : Type 0} (g : ℕ → A) (d : A) (i n k : ℕ) → k < n → getD (tabled g i n) k d ≡ g (i + k)
@@ -27,14 +28,18 @@ abbrev pub allOf : (ℕ → Bool) → List ℕ → Bool
 allOf t [] = true
 allOf t (k ∷ ks) = t k && allOf t ks
 
+-- what holds of each number of a list holds of a number that is in it
+pub holds-in : {P : ℕ → Type 0} {ks : List ℕ} → All P ks → (c : ℕ) → isIn c ks ≡ true → P c
+holds-in all-none c e = absurd (true-false (sym e))
+holds-in (all-more {a = k} p h) c e =
+    elim (tested (eqb c k)) [ inl q ↦ rw (eqb-true c k q) p | inr q ↦ holds-in h c (rw q at e) ]
+
 pub all-at : (t : ℕ → Bool) (ks : List ℕ) → allOf t ks ≡ true → (c : ℕ) → isIn c ks ≡ true → t c ≡ true
-all-at t [] h c e = absurd (true-false (sym e))
-all-at t (k ∷ ks) h c e =
-    let both = and-eq-true-iff (t k) (allOf t ks) .0 h in
-    elim (tested (eqb c k)) [
-      | inl q ↦ rw (eqb-true c k q) (both .0)
-      | inr q ↦ all-at t ks (both .1) c (rw q at e)
-    ]
+all-at t ks h c e = holds-in (all-of ks h) c e
+  where
+    all-of : (ks : List ℕ) → allOf t ks ≡ true → All (λ k. t k ≡ true) ks
+    all-of [] h = all-none
+    all-of (k ∷ ks) h = let both = and-eq-true-iff (t k) (allOf t ks) .0 h in all-more (both .0) (all-of ks (both .1))
 
 -- and of each two of its numbers
 abbrev pub allPairs : (ℕ → ℕ → Bool) → List ℕ → Bool

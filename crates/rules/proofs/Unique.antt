@@ -10,6 +10,7 @@ use Rattle.rules.specs.Breaks.{bound, width}
 use Rattle.rules.specs.Meanings.{lastIn, Apart, apart-more, Fits, fits-more, EndsWell, at-end, at-break, Longest}
 use Rattle.rules.specs.Meanings.{longest-more}
 use Rattle.rules.proofs.Facts.{nil-cons, cons-path}
+use Rattle.rules.proofs.LongestLines.{ends-alike}
 use Rattle.rules.proofs.Cuts.{last-append, apart-tail}
 
 -- two ways of parting one list, into ps and qs and into ss and rs: at the same place, or one later than the other
@@ -38,10 +39,6 @@ ends-well : (l : Run TextUnit) (ls : List (Run TextUnit)) → Apart bound (l ∷
 unfolding joined
 ends-well l [] h = at-end
 ends-well l (k ∷ ls) (apart-more e h) = at-break {v = k .first} e
-
-ends-alike : {l k : Run TextUnit} {vs : List TextUnit} → lastIn l ≡ lastIn k → EndsWell l vs → EndsWell k vs
-ends-alike p at-end = at-end
-ends-alike {k = k} p (at-break {v = v} e) = at-break {l = k} {v = v} (rw (← p) e)
 
 -- no line that fits goes on past one that is the longest
 past-longest : (m x : ℕ) (l k t : Run TextUnit) (ls ks : List (Run TextUnit)) → Longest m x (k ∷ ks) →

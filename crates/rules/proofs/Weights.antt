@@ -11,19 +11,13 @@ use Rattle.rules.specs.Space.{quarter, ruleOf, spaceBy, spaceOf}
 use Rattle.rules.specs.Sides.{Side, forbidden}
 use Rattle.rules.specs.Gaps.{weight}
 use Rattle.rules.specs.Spacing.{solid, eighths, sameSpace, agrees}
-use Rattle.rules.proofs.Facts.{tested, true-false}
+use Rattle.rules.proofs.Facts.{tested, true-false, unmet}
 
 -- before class 5 a break is forbidden
 before-dot : (L R : Side) → forbidden L R ≡ false → eqb (R .class) 5 ≡ false
 unfolding forbidden
 before-dot L R h =
-    elim (tested (eqb (R .class) 5)) [
-      | inr e ↦ e
-      | inl e ↦
-          let five : R .class ≡ 5 = eqb-true (R .class) 5 e in
-          let f : true ≡ false = rw five at h in
-          absurd (true-false f)
-    ]
+    unmet (λ e. let five : R .class ≡ 5 = eqb-true (R .class) 5 e in true-false (rw five at h))
 
 pub weight-tied : (L R : Side) → forbidden L R ≡ true → weight L R ≡ 0
 unfolding weight
@@ -46,15 +40,12 @@ dot-spaced R = elim (tested (eqb R 5)) [ inl e ↦ rw e | inr e ↦ rw e ]
 pub solid-after : (L R : ℕ) → agrees solid L R ≡ true → eqb L 5 ≡ false
 unfolding agrees
 solid-after L R h =
-    elim (tested (eqb L 5)) [
-      | inr e ↦ e
-      | inl e ↦
-          let same = and-eq-true-iff (sameSpace (solid .space) (spaceOf L R)) _ .0 h .0 in
-          let left = and-eq-true-iff (eqb 0 (eighths (spaceOf L R .left))) _ .0 same .0 in
-          let some : spaceOf L R .left ≡ quarter = rw (eqb-true L 5 e) (dot-spaced R) in
-          let f : false ≡ true = rw some at left in
-          absurd (true-false (sym f))
-    ]
+    let same = and-eq-true-iff (sameSpace (solid .space) (spaceOf L R)) _ .0 h .0 in
+    let left = and-eq-true-iff (eqb 0 (eighths (spaceOf L R .left))) _ .0 same .0 in
+    unmet
+    (λ e.
+    let some : spaceOf L R .left ≡ quarter = rw (eqb-true L 5 e) (dot-spaced R) in
+    true-false (sym (rw some at left)))
 
 one-at-most : (b : Bool) → cond b 1 0 ≤ 1
 one-at-most true = omega arith

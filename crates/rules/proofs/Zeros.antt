@@ -18,5 +18,5 @@ zeros-append m n = replicate-append-replicate m n 0
 pub drop-zeros : (n k : ℕ) → k ≤ n → drop k (zeros n) ≡ zeros (n - k)
 unfolding zeros
 drop-zeros n zero h = rw sub-zero
-drop-zeros zero (suc k) h = let z : ⊥ = omega arith in absurd z
+drop-zeros zero (suc k) h = absurd (omega arith)
 drop-zeros (suc n) (suc k) h = rw suc-sub-suc (drop-zeros n k (omega arith))

@@ -3,8 +3,5 @@ use mathlib.Core.Bool.{or-false}
 use Rattle.rules.proofs.basics.one_of2.Statement.{statement}
 use Rattle.rules.proofs.basics.one_of2.Tie as tie
 
-returns : tie.Need-returns
-returns c = rw or-false
-
 pub one-of2-spec : {M : Type 1} → statement M
-one-of2-spec = tie.close (tie.spec returns)
+one-of2-spec = tie.close (tie.spec (λ c. rw or-false))

@@ -4,9 +4,6 @@ use Rattle.rules.specs.Computed.{computed}
 use Rattle.rules.proofs.gaps.entry_words.Statement.{statement}
 use Rattle.rules.proofs.gaps.entry_words.Tie as tie
 
-returns : tie.Need-returns
-unfolding computed
-returns c = refl
-
 pub entry-words-spec : {M : Type 1} → statement M
-entry-words-spec = tie.close (tie.spec returns)
+unfolding computed
+entry-words-spec = tie.close (tie.spec (λ c. refl))

@@ -40,7 +40,7 @@ entry-is c =
     ap (λ n. n % 16) (cell-is c) ∙ cell-entry _ _ (p .0 .0 .class) (p .0 .1 .class)
 
 mul-wide : tie.Need-mul-wide
-mul-wide c = record { fits = omega (arith, row-small _ (c .pre .0 .0 .class)) }
+mul-wide c = omega (arith, row-small _ (c .pre .0 .0 .class))
 
 index-1-wide : tie.Need-index-1-wide
 index-1-wide c = omega (arith, row-small _ (c .pre .0 .0 .class))
@@ -104,15 +104,6 @@ pub joint-between-spec : {M : Type 1} → statement M
 joint-between-spec =
     tie.close
     (tie.spec
-    mul-wide
-    index-1-wide
-    index-2-wide
-    (λ c κs. search needs)
-    returns
-    tied-by-requires
-    (λ c. search needs)
-    taken-requires
-    returns-2
-    returns-3
-    (λ c. search needs)
-    returns-4)
+    mul-wide index-1-wide index-2-wide (λ c κs. search needs)
+    returns tied-by-requires (λ c. search needs) taken-requires
+    returns-2 returns-3 (λ c. search needs) returns-4)

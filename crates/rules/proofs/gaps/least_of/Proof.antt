@@ -5,11 +5,5 @@ use borrow.Author.Needs.{needs}
 use Rattle.rules.proofs.gaps.least_of.Statement.{statement}
 use Rattle.rules.proofs.gaps.least_of.Tie as tie
 
-cast-result : tie.Need-cast-result
-cast-result c = search needs
-
-returns : tie.Need-returns
-returns c = refl
-
 pub least-of-spec : {M : Type 1} → statement M
-least-of-spec = tie.close (tie.spec cast-result returns)
+least-of-spec = tie.close (tie.spec (λ c. search needs) (λ c. refl))

@@ -20,36 +20,15 @@ row s = ap (λ t. getD t (s .args .entry) []) (s .pre .3) ∙ words-at (s .args 
 returns : tie.Need-returns
 returns c = let s = c .before .args in solid-taken (s .entry) (s .left) (s .right) (c .if1 .taken)
 
-mul-times : tie.Need-mul-times
-mul-times c = search needs
-
-index-1-times : tie.Need-index-1-times
-index-1-times c = search needs
-
-index-2-times : tie.Need-index-2-times
-index-2-times c = search needs
-
 times-requires : tie.Need-times-requires
 times-requires c κs =
     let s = c .before .before in
     (s .pre .1, rw (row s) (entry-law (s .args .entry) (s .pre .0) .small .0))
 
-mul-times-2 : tie.Need-mul-times-2
-mul-times-2 c = search needs
-
-index-1-times-2 : tie.Need-index-1-times-2
-index-1-times-2 c = search needs
-
-index-2-times-2 : tie.Need-index-2-times-2
-index-2-times-2 c = search needs
-
 times-requires-2 : tie.Need-times-requires-2
 times-requires-2 c κs =
     let s = c .before .before .before .before in
     (s .pre .2, rw (row s) (entry-law (s .args .entry) (s .pre .0) .small .1))
-
-add-result : tie.Need-add-result
-add-result c = search needs
 
 returns-2 : tie.Need-returns-2
 returns-2 c =
@@ -62,14 +41,6 @@ pub taken-spec : {M : Type 1} → statement M
 taken-spec =
     tie.close
     (tie.spec
-    returns
-    mul-times
-    index-1-times
-    index-2-times
-    times-requires
-    mul-times-2
-    index-1-times-2
-    index-2-times-2
-    times-requires-2
-    add-result
-    returns-2)
+    returns (λ c. search needs) (λ c. search needs) (λ c. search needs)
+    times-requires (λ c. search needs) (λ c. search needs) (λ c. search needs)
+    times-requires-2 (λ c. search needs) returns-2)

@@ -8,12 +8,7 @@ use Rattle.rules.proofs.gaps.times.Statement.{statement}
 use Rattle.rules.proofs.gaps.times.Tie as tie
 
 small : (c : tie.Start) → c .args .size / 8 * c .args .word ≤ 274877906944000
-small c =
-    let eighths : c .args .size / 8 ≤ 500 = omega (arith, c .pre .0) in
-    mul-le-mul eighths (c .pre .1)
-
-cast-result : tie.Need-cast-result
-cast-result c = search needs
+small c = mul-le-mul {n₂ = 500} (omega (arith, c .pre .0)) (c .pre .1)
 
 mul-result : tie.Need-mul-result
 mul-result c = record { fits = omega (arith, small c) }
@@ -22,4 +17,4 @@ returns : tie.Need-returns
 returns c = (refl, small c)
 
 pub times-spec : {M : Type 1} → statement M
-times-spec = tie.close (tie.spec cast-result mul-result returns)
+times-spec = tie.close (tie.spec (λ c. search needs) mul-result returns)

@@ -2,7 +2,6 @@
 use borrow.Author.Needs.{needs}
 use borrow.Author.Tests.{le-leb}
 use native.Mathlib.Omega.{arith}
-use Prim.Native.Nat.{_≤_}
 use Rattle.rules.specs.Groups.{shift}
 use Rattle.rules.proofs.Bounds.{shift-small, shift-product}
 use Rattle.rules.proofs.groups.shift.Statement.{statement}
@@ -22,9 +21,7 @@ mul-result c = omega (arith, shift-product (c .before .before .pre))
 
 returns-3 : tie.Need-returns-3
 unfolding shift
-returns-3 c =
-    let more : 2 ≤ c .before .before .args .n = omega (arith, c .before .before .pre .item) in
-    rw (le-leb 2 (c .before .before .args .n) more)
+returns-3 c = rw (le-leb 2 (c .before .before .args .n) (omega (arith, c .before .before .pre .item)))
 
 pub shift-spec : {M : Type 1} → statement M
 shift-spec =

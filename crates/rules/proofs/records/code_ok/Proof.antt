@@ -4,9 +4,6 @@ use Rattle.rules.specs.Records.{codeOk}
 use Rattle.rules.proofs.records.code_ok.Statement.{statement}
 use Rattle.rules.proofs.records.code_ok.Tie as tie
 
-returns : tie.Need-returns
-unfolding codeOk
-returns c = rw (c .between .ensures)
-
 pub code-ok-spec : {M : Type 1} → statement M
-code-ok-spec = tie.close (tie.spec (λ c κs. search needs) returns)
+unfolding codeOk
+code-ok-spec = tie.close (tie.spec (λ c κs. search needs) (λ c. rw (c .between .ensures)))

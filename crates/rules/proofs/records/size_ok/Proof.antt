@@ -4,9 +4,6 @@ use Rattle.rules.specs.Records.{sizeOk}
 use Rattle.rules.proofs.records.size_ok.Statement.{statement}
 use Rattle.rules.proofs.records.size_ok.Tie as tie
 
-returns : tie.Need-returns
-unfolding sizeOk
-returns c = rw (c .between .ensures)
-
 pub size-ok-spec : {M : Type 1} → statement M
-size-ok-spec = tie.close (tie.spec (λ c κs. search needs) returns)
+unfolding sizeOk
+size-ok-spec = tie.close (tie.spec (λ c κs. search needs) (λ c. rw (c .between .ensures)))

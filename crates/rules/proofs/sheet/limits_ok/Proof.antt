@@ -3,8 +3,5 @@ use borrow.Author.Needs.{needs}
 use Rattle.rules.proofs.sheet.limits_ok.Statement.{statement}
 use Rattle.rules.proofs.sheet.limits_ok.Tie as tie
 
-returns : tie.Need-returns
-returns c = rw (c .between .ensures)
-
 pub limits-ok-spec : {M : Type 1} → statement M
-limits-ok-spec = tie.close (tie.spec (λ c κs. search needs) returns)
+limits-ok-spec = tie.close (tie.spec (λ c κs. search needs) (λ c. rw (c .between .ensures)))

@@ -3,8 +3,5 @@ use borrow.Author.Needs.{needs}
 use Rattle.rules.proofs.sheet.slot_limits_ok.Statement.{statement}
 use Rattle.rules.proofs.sheet.slot_limits_ok.Tie as tie
 
-returns : tie.Need-returns
-returns c = rw (c .limits-ok .ensures)
-
 pub slot-limits-ok-spec : {M : Type 1} → statement M
-slot-limits-ok-spec = tie.close (tie.spec (λ c κs. search needs) returns)
+slot-limits-ok-spec = tie.close (tie.spec (λ c κs. search needs) (λ c. rw (c .limits-ok .ensures)))

@@ -9,12 +9,6 @@ use Rattle.rules.proofs.spacing.row_of.Tie as tie
 element-copy-out-wide : tie.Need-element-copy-out-wide
 element-copy-out-wide c = class-small (c .args .class) (c .pre .0)
 
-wide-requires : tie.Need-wide-requires
-wide-requires c κs = search needs
-
-cast-result : tie.Need-cast-result
-cast-result c = search needs
-
 returns : tie.Need-returns
 returns c =
     let s = c .before .before in
@@ -23,4 +17,4 @@ returns c =
     (e, rw e (row-small k (s .pre .0)))
 
 pub row-of-spec : {M : Type 1} → statement M
-row-of-spec = tie.close (tie.spec element-copy-out-wide wide-requires cast-result returns)
+row-of-spec = tie.close (tie.spec element-copy-out-wide (λ c κs. search needs) (λ c. search needs) returns)
