@@ -21,15 +21,18 @@ use Rattle.rules.proofs.Facts.{tested, some-none, some-same}
 use Rattle.rules.proofs.FirstFailing.{fails-within}
 use Rattle.rules.proofs.Cuts.{cut-joined, joined-append}
 use Rattle.rules.proofs.NoBreaking.{counts-append, place-of-10}
-use Rattle.rules.proofs.Lengths.{counts-units, length-linesOf, composed-few}
+use Rattle.rules.proofs.Lengths.{counts-units, length-linesOf, composed-few as lines-few}
 use Rattle.rules.proofs.Words.{length-records}
 use Rattle.compose.specs.Paragraph.{size, paragraph, Checked, placeOr}
-use Rattle.compose.specs.Lines.{firsts, broken, composed, Broken}
+use Rattle.compose.specs.Lines.{firsts, broken, composed}
+use Rattle.compose.specs.LineFrom.{stopOf, BrokenTo}
+use Rattle.compose.specs.Adjusted.{ComposedTo}
+use Rattle.compose.specs.declared.breaking.Stop.{Stop}
 use Rattle.compose.specs.Scan.{Scanned, Front}
-use Rattle.compose.specs.Composed.{RecordsJudged, RowsJudged, Kept, Started}
+use Rattle.compose.specs.Composed.{RecordsJudged, RowsJudged, Kept, Started, Composed}
 
 -- a place below n names an answer; n itself names none, where answers name places below n
-pub named : (n r : ℕ) (o : Option ℕ) → r ≡ placeOr n o → r < n → o ≡ some r
+named : (n r : ℕ) (o : Option ℕ) → r ≡ placeOr n o → r < n → o ≡ some r
 named n r none e h = let z : ⊥ = omega arith in absurd z
 named n r (some i) e h = ap some (sym e)
 
@@ -66,64 +69,64 @@ wide-within m x j rs e =
     sym (counts-append (joined (w .before)) (joined (w .run ∷ w .after))) ∙ ap (λ us. counts us) a ∙ counts-units rs in
     omega (arith, n, w .place)
 
-module _ (ws : List ℕ) (r : ℕ) (out : size ws ≤ r) where
+module _ (ws : List ℕ) {r : ℕ} (out : size ws ≤ r) where
   len : length (paragraph ws) ≡ size ws
   len = length-records ws 0 (size ws)
 
-  -- the first record that fails a test, answer 8's or 12's
+  -- no record fails a test, answer 8's or 12's
   none-fails : (t : Rec → Bool) → r ≡ placeOr (size ws) (firstFailing t 0 (paragraph ws)) →
       firstFailing t 0 (paragraph ws) ≡ none
   none-fails t e = unnamed (size ws) r _ (λ i q. omega (arith, fails-within t 0 i (paragraph ws) q, len)) e out
 
-  pub no-8 : r ≡ placeOr (size ws) (badRecord 0 (paragraph ws)) → badRecord 0 (paragraph ws) ≡ none
+  no-8 : r ≡ placeOr (size ws) (badRecord 0 (paragraph ws)) → badRecord 0 (paragraph ws) ≡ none
   unfolding badRecord
   no-8 e = none-fails recOk e
 
-  pub no-12 : r ≡ placeOr (size ws) (notListed 0 (paragraph ws)) → notListed 0 (paragraph ws) ≡ none
+  no-12 : r ≡ placeOr (size ws) (notListed 0 (paragraph ws)) → notListed 0 (paragraph ws) ≡ none
   unfolding notListed
   no-12 e = none-fails isListed e
 
-  pub no-9 : r ≡ placeOr (size ws) (groupFault (paragraph ws)) → groupFault (paragraph ws) ≡ none
+  no-9 : r ≡ placeOr (size ws) (groupFault (paragraph ws)) → groupFault (paragraph ws) ≡ none
   no-9 e = unnamed (size ws) r _ (λ i q. omega (arith, fault-within i (paragraph ws) q, len)) e out
 
-  pub no-10 : (m x : ℕ) → r ≡ placeOr (size ws) (noBreaking m x (units (paragraph ws))) →
-      noBreaking m x (units (paragraph ws)) ≡ none
+  no-10 : (m x : ℕ) → r ≡ stopOf ws m x → noBreaking m x (units (paragraph ws)) ≡ none
   no-10 m x e = unnamed (size ws) r _ (λ i q. omega (arith, wide-within m x i (paragraph ws) q, len)) e out
 
-module _ (m x : ℕ) (rs : List Rec) where
-  pub judged-8 : (i : ℕ) → badRecord 0 rs ≡ some i → judged m x rs ≡ says 8 i
-  unfolding judged
-  judged-8 i e = rw e
+-- answers 8, 12 and 9, as `first_fault` finds them -----------------------------------------------------------------
 
-  pub judged-12 : (i : ℕ) → badRecord 0 rs ≡ none → notListed 0 rs ≡ some i → judged m x rs ≡ says 12 i
-  unfolding judged
-  judged-12 i a e = rw (a, e)
-
-  pub judged-9 : (i : ℕ) → badRecord 0 rs ≡ none → notListed 0 rs ≡ none → groupFault rs ≡ some i →
-      judged m x rs ≡ says 9 i
-  unfolding judged
-  judged-9 i a l e = rw (a, l, e)
-
--- past 8, 12 and 9
-module _ (m x : ℕ) {ws : List ℕ} (c : Checked ws) where
-  pub judged-10 : (i : ℕ) → noBreaking m x (units (paragraph ws)) ≡ some i → judged m x (paragraph ws) ≡ says 10 i
-  unfolding judged
-  judged-10 i e = rw (c .sound, c .listed, c .grouped, e)
-
-  pub judged-0 : noBreaking m x (units (paragraph ws)) ≡ none →
-      judged m x (paragraph ws) ≡ says 0 (length (compose m x (units (paragraph ws))))
-  unfolding judged
-  judged-0 e = rw (c .sound, c .listed, c .grouped, e)
-
--- a refusal and an acceptance, as the contract of `first_fault` has them
 module _ {ws : List ℕ} {number place : ℕ} where
-  pub refused : {n p : ℕ} → (number ≡ n) × (place ≡ p) → (n ≡ 0 → ⊥) →
-      ((m x : ℕ) → judged m x (paragraph ws) ≡ says n p) → RecordsJudged ws number place
-  refused e z h =
-      record { refused = λ q m x. rw (e .0, e .1) (h m x); accepted = λ q. absurd (z (sym (e .0) ∙ q)) }
+  refused : {n p : ℕ} → (number ≡ suc n) × (place ≡ p) →
+      ((m x : ℕ) → judged m x (paragraph ws) ≡ says (suc n) p) → RecordsJudged ws number place
+  refused e h =
+      record { refused = λ q m x. rw (e .0, e .1) (h m x); accepted = λ q. absurd (omega (arith, e .0)) }
 
-  pub accepted : number ≡ 0 → Checked ws → RecordsJudged ws number place
+  accepted : number ≡ 0 → Checked ws → RecordsJudged ws number place
   accepted e c = record { refused = λ q. absurd (q e); accepted = λ q. c }
+
+  module _ {bad : ℕ} (b : bad ≡ placeOr (size ws) (badRecord 0 (paragraph ws))) where
+    pub fault-8 : bad < size ws → (number ≡ 8) × (place ≡ bad) → RecordsJudged ws number place
+    unfolding judged
+    fault-8 h e = let f = named (size ws) bad (badRecord 0 (paragraph ws)) b h in refused e (λ m x. rw f)
+
+    module _ (sound : size ws ≤ bad) {lacking : ℕ} (l : lacking ≡ placeOr (size ws) (notListed 0 (paragraph ws))) where
+      pub fault-12 : lacking < size ws → (number ≡ 12) × (place ≡ lacking) → RecordsJudged ws number place
+      unfolding judged
+      fault-12 h e =
+          let f = named (size ws) lacking (notListed 0 (paragraph ws)) l h in
+          refused e (λ m x. rw (no-8 ws sound b, f))
+
+      module _ (listed : size ws ≤ lacking) {fault : ℕ}
+          (g : fault ≡ placeOr (size ws) (groupFault (paragraph ws))) where
+        pub fault-9 : fault < size ws → (number ≡ 9) × (place ≡ fault) → RecordsJudged ws number place
+        unfolding judged
+        fault-9 h e =
+            let f = named (size ws) fault (groupFault (paragraph ws)) g h in
+            refused e (λ m x. rw (no-8 ws sound b, no-12 ws listed l, f))
+
+        pub no-fault : size ws ≤ 256 → size ws ≤ fault → number ≡ 0 → RecordsJudged ws number place
+        no-fault few h e =
+            accepted e
+            (record { few = few; sound = no-8 ws sound b; listed = no-12 ws listed l; grouped = no-9 ws h g })
 
 -- the scan's yes, where what stands before is known, and its no
 module _ {ws ds₀ gs₀ os₀ ds gs os : List ℕ} {start stop number place : ℕ} {b : Bool}
@@ -137,14 +140,16 @@ module _ {ws ds₀ gs₀ os₀ ds gs os : List ℕ} {start stop number place : �
   pub scanned-fault : b ≡ false → RecordsJudged ws number place → RowsJudged ws ds gs os number place
   scanned-fault e r = record { records = r; rows = λ z. absurd (s .ill e (r .accepted z)) }
 
+-- what `check` and `compose` answer ---------------------------------------------------------------------------------
+
 -- there are as many lines as the breaking gives, and no more than records
-pub lines-composed : (ws : List ℕ) (m x : ℕ) → length (composed ws m x) ≡ length (broken ws m x)
+lines-composed : (ws : List ℕ) (m x : ℕ) → length (composed ws m x) ≡ length (broken ws m x)
 unfolding compose
 lines-composed ws m x = length-linesOf m x (broken ws m x)
 
-pub lines-within : (ws : List ℕ) (m x : ℕ) → length (broken ws m x) ≤ size ws
+lines-within : (ws : List ℕ) (m x : ℕ) → length (broken ws m x) ≤ size ws
 lines-within ws m x =
-    omega (arith, lines-composed ws m x, composed-few m x (paragraph ws), length-records ws 0 (size ws))
+    omega (arith, lines-composed ws m x, lines-few m x (paragraph ws), length-records ws 0 (size ws))
 
 -- the first record of each line, as the breaking writes them
 firsts-start : (m x i : ℕ) (ls : List (Run TextUnit)) (j : ℕ) → j < length ls →
@@ -155,22 +160,71 @@ firsts-start m x i (l ∷ ls) zero h = omega arith
 firsts-start m x i (l ∷ ls) (suc j) h =
     omega (arith, firsts-start m 0 (i + counts (whole l)) ls j (omega arith))
 
--- what `check` tells of a paragraph that breaks into lines
-pub started : {ws : List ℕ} {m x : ℕ} {starts : List ℕ} {count number place : ℕ} → Checked ws →
-    noBreaking m x (units (paragraph ws)) ≡ none → Broken ws m x starts count → (number ≡ 0) × (place ≡ count) →
-    Started ws m x starts number place
-unfolding compose
-started {ws} {m} {x} {starts} {count} {number} {place} c f b e =
-    record {
-      answer = judged-0 m x c f ∙ rw (e .0, e .1, b .count) (ap (says 0) (lines-composed ws m x));
-      first = λ z j h.
-          let i : j < count = rw (e .1) at h in
-          sym (getD-take count starts j 0 i) ∙ ap (λ s. getD s j 0) (b .first)
-          ∙ omega (arith, firsts-start m x 0 (broken ws m x) j (omega (arith, b .count)));
-    }
+pub rows-kept : {ws ds gs os : List ℕ} {a p : ℕ} → RowsJudged ws ds gs os a p → a ≡ 0 → Kept ws ds gs os
+rows-kept r e = record { checked = r .records .accepted e; rows = r .rows e }
 
--- and of one that is refused
-pub not-started : {ws ds gs os starts : List ℕ} {m x number place : ℕ} → (number ≡ 0 → ⊥) →
-    judged m x (paragraph ws) ≡ says number place →
-    Started ws m x starts number place × (number ≡ 0 → Kept ws ds gs os)
-not-started z e = (record { answer = e; first = λ q. absurd (z q) }, λ q. absurd (z q))
+module _ {ws ds gs os : List ℕ} {a p : ℕ} (r : RowsJudged ws ds gs os a p) (m x : ℕ) where
+  -- 8, 12 or 9 applies
+  pub started-not : {starts : List ℕ} → (a ≡ 0 → ⊥) → Started ws m x starts a p
+  started-not n = record { answer = r .records .refused n m x; first = λ z. absurd (n z) }
+
+  pub composed-not : {ps₀ ls₀ ps ls : List ℕ} → (a ≡ 0 → ⊥) → Composed ws m x ps₀ ls₀ ps ls a p
+  composed-not n = record { answer = r .records .refused n m x; written = λ z. absurd (n z) }
+
+  -- they do not; s is the record from which on no line fits
+  module _ (passed : a ≡ 0) {number place : ℕ} where
+    answer-10 : {s : ℕ} → s ≡ stopOf ws m x → s < size ws → (number ≡ 10) × (place ≡ s) →
+        judged m x (paragraph ws) ≡ says number place
+    unfolding judged
+    answer-10 {s} e h q =
+        let c = r .records .accepted passed in
+        let n = named (size ws) s (noBreaking m x (units (paragraph ws))) e h in
+        rw (c .sound, c .listed, c .grouped, n, q .0, q .1)
+
+    answer-0 : {s : ℕ} → s ≡ stopOf ws m x → size ws ≤ s → (number ≡ 0) × (place ≡ length (composed ws m x)) →
+        judged m x (paragraph ws) ≡ says number place
+    unfolding judged
+    answer-0 e h q =
+        let c = r .records .accepted passed in
+        rw (c .sound, c .listed, c .grouped, no-10 ws h m x e, q .0, q .1)
+
+    module _ {stop : Stop} where
+      pub started-10 : {starts : List ℕ} → BrokenTo ws m x starts stop → stop .place < size ws →
+          (number ≡ 10) × (place ≡ stop .place) → Started ws m x starts number place
+      started-10 b h q = record { answer = answer-10 (b .place) h q; first = λ z. absurd (omega arith) }
+
+      pub composed-10 : {ps₀ ls₀ ps ls : List ℕ} → ComposedTo ws m x ps₀ ls₀ ps ls stop → stop .place < size ws →
+          (number ≡ 10) × (place ≡ stop .place) → Composed ws m x ps₀ ls₀ ps ls number place
+      composed-10 b h q = record { answer = answer-10 (b .place) h q; written = λ z. absurd (omega arith) }
+
+      pub started-0 : {starts : List ℕ} → BrokenTo ws m x starts stop → size ws ≤ stop .place →
+          (number ≡ 0) × (place ≡ stop .lines) → Started ws m x starts number place
+      unfolding compose
+      started-0 {starts} b h q =
+          let k = b .broken (no-10 ws h m x (b .place)) in
+          let n : place ≡ length (composed ws m x) = q .1 ∙ k .count ∙ sym (lines-composed ws m x) in
+          record {
+            answer = answer-0 (b .place) h (q .0, n);
+            first = λ z j l.
+                let i : j < stop .lines = rw (q .1) at l in
+                sym (getD-take (stop .lines) starts j 0 i) ∙ ap (λ s. getD s j 0) (k .first)
+                ∙ omega (arith, firsts-start m x 0 (broken ws m x) j (omega (arith, k .count)));
+          }
+
+      pub composed-0 : {ps₀ ls₀ ps ls : List ℕ} → ComposedTo ws m x ps₀ ls₀ ps ls stop → size ws ≤ stop .place →
+          (number ≡ 0) × (place ≡ stop .lines) → Composed ws m x ps₀ ls₀ ps ls number place
+      composed-0 b h q =
+          let n = no-10 ws h m x (b .place) in
+          record {
+            answer = answer-0 (b .place) h (q .0, q .1 ∙ b .count n);
+            written = λ z. rw (q .1) (b .written n);
+          }
+
+-- there are no more lines than records
+module _ {ws : List ℕ} {m x : ℕ} {stop : Stop} (few : size ws ≤ 256) where
+  pub broken-few : {starts : List ℕ} → BrokenTo ws m x starts stop → size ws ≤ stop .place → stop .lines ≤ 256
+  broken-few b h = omega (arith, b .broken (no-10 ws h m x (b .place)) .count, lines-within ws m x)
+
+  pub composed-few : {ps₀ ls₀ ps ls : List ℕ} → ComposedTo ws m x ps₀ ls₀ ps ls stop → size ws ≤ stop .place →
+      stop .lines ≤ 256
+  composed-few b h = omega (arith, b .count (no-10 ws h m x (b .place)), lines-composed ws m x, lines-within ws m x)

@@ -4,11 +4,11 @@ use mathlib.Core.Path.{_≡_}
 use Prim.Native.Nat.{ℕ, suc, _+_, _-_, _≤_, _<_}
 use native.Mathlib.Omega.{arith}
 use native.Mathlib.Nat.{sub-zero}
-use mathlib.Core.Bool.{Bool, true, false, _&&_}
+use mathlib.Core.Bool.{Bool, true, false, not, _&&_}
 use mathlib.Core.List.{List, [], _∷_}
 use mathlib.Core.Logic.{inl, inr}
 use lib.Dec.{eqb}
-use borrow.Author.Tests.{lt-ltb, le-ltb}
+use borrow.Author.Tests.{lt-ltb, le-ltb, not-true, not-false}
 use Rattle.rules.specs.Basics.{firstFailing}
 use Rattle.rules.specs.Records.{Rec, recAt, records}
 use Rattle.rules.specs.Groups.{sameGroup, badGroup, groupFault}
@@ -34,19 +34,24 @@ module _ {t : Rec → Bool} {ws : List ℕ} where
   pub passed-start : Passed t ws 0
   passed-start = record { same = rw sub-zero }
 
-  pub passed-more : {i : ℕ} → i < size ws → t (recAt ws i) ≡ true → Passed t ws i → Passed t ws (i + 1)
-  unfolding firstFailing
-  passed-more {i} h e s =
-      let n : suc i ≡ i + 1 = omega arith in
-      record { same = rw (records-from ws i h, firstFailing, e, n) at (s .same) }
-
-  pub passed-not : {i : ℕ} → i < size ws → t (recAt ws i) ≡ false → Passed t ws i → i ≡ failingPlace t ws
-  unfolding firstFailing
-  passed-not {i} h e s = rw (← s .same, records-from ws i h, firstFailing, e)
-
   pub passed-end : {i : ℕ} → size ws ≤ i → Passed t ws i → size ws ≡ failingPlace t ws
   unfolding firstFailing
   passed-end {i} h s = rw (← s .same, records-end ws i h)
+
+  -- record i is r, and the test says b
+  module _ {i : ℕ} (s : Passed t ws i) (h : i < size ws) {r : Rec} (q : r ≡ recAt ws i) {b : Bool} (e : b ≡ t r) where
+    pub passed-more : not b ≡ false → Passed t ws (i + 1)
+    unfolding firstFailing
+    passed-more p =
+        let y : t (recAt ws i) ≡ true = cc (not-false b p) in
+        let n : suc i ≡ i + 1 = omega arith in
+        record { same = rw (records-from ws i h, firstFailing, y, n) at (s .same) }
+
+    pub passed-not : not b ≡ true → i ≡ failingPlace t ws
+    unfolding firstFailing
+    passed-not p =
+        let y : t (recAt ws i) ≡ false = cc (not-true b p) in
+        rw (← s .same, records-from ws i h, firstFailing, y)
 
 -- Answer 9 ---------------------------------------------------------------------------------------------------------
 
@@ -79,40 +84,35 @@ module _ {ws : List ℕ} where
 abbrev pub alike : Rec → Rec → Bool
 alike p r = eqb (p .size) (r .size) && eqb (p .ruby) (r .ruby)
 
--- record i is r, and the one before it p
-pub record Neighbours (ws : List ℕ) (i count : ℕ) (p r : Rec) : Type 0 where
-  pub inside : i < size ws
-  pub grouped : Grouped ws i count
-  pub before : p ≡ recAt ws (i - 1)
-  pub here : r ≡ recAt ws i
-
-module _ {ws : List ℕ} {i count : ℕ} {p r : Rec} (n : Neighbours ws i count p r) where
+-- record i is r, and the one before it p; b says whether they are of one group
+module _ {ws : List ℕ} {i count : ℕ} (inside : i < size ws) (g : Grouped ws i count) {p r : Rec}
+    (before : p ≡ recAt ws (i - 1)) (here : r ≡ recAt ws i) {b : Bool} (t : b ≡ sameGroup p r) where
   left : badGroup i count p (r ∷ records ws (i + 1) (size ws - (i + 1))) ≡ groupFault (paragraph ws)
-  left = rw (n .before, n .here, ← records-from ws i (n .inside)) (n .grouped .same)
+  left = rw (before, here, ← records-from ws i inside) (g .same)
 
   -- they differ, or r is the seventeenth
-  pub grouped-unlike : sameGroup p r ≡ true → alike p r ≡ false → i ≡ faultPlace ws
+  pub grouped-unlike : b ≡ true → not (alike p r) ≡ true → i ≡ faultPlace ws
   unfolding badGroup
-  grouped-unlike j a = rw (← left, badGroup, j, a)
+  grouped-unlike j a = rw (← left, badGroup, ← t, j, not-true (alike p r) a)
 
-  pub grouped-many : sameGroup p r ≡ true → alike p r ≡ true → 16 ≤ count → i ≡ faultPlace ws
+  pub grouped-many : b ≡ true → not (alike p r) ≡ false → 16 ≤ count → i ≡ faultPlace ws
   unfolding badGroup
-  grouped-many j a b = rw (← left, badGroup, j, a, le-ltb _ _ b)
+  grouped-many j a h = rw (← left, badGroup, ← t, j, not-false (alike p r) a, le-ltb _ _ h)
 
   -- from the next record on, with r the k-th of its group
   next : (k : ℕ) → k ≤ 16 → badGroup (suc i) k r (records ws (i + 1) (size ws - (i + 1))) ≡ groupFault (paragraph ws) →
       Grouped ws (i + 1) k
-  next k b e =
+  next k h e =
       let a : suc i ≡ i + 1 = omega arith in
       let d : i + 1 - 1 ≡ i = omega arith in
-      record { low = omega arith; few = b; same = rw d (rw (a, n .here) at e) }
+      record { low = omega arith; few = h; same = rw d (rw (a, here) at e) }
 
-  pub grouped-more : sameGroup p r ≡ true → alike p r ≡ true → count < 16 → Grouped ws (i + 1) (count + 1)
+  pub grouped-more : b ≡ true → not (alike p r) ≡ false → count < 16 → Grouped ws (i + 1) (count + 1)
   unfolding badGroup
-  grouped-more j a b =
+  grouped-more j a h =
       let e : suc count ≡ count + 1 = omega arith in
-      next (count + 1) (omega arith) (rw (badGroup, j, a, lt-ltb _ _ b, e) at left)
+      next (count + 1) (omega arith) (rw (badGroup, ← t, j, not-false (alike p r) a, lt-ltb _ _ h, e) at left)
 
-  pub grouped-other : sameGroup p r ≡ false → Grouped ws (i + 1) 1
+  pub grouped-other : b ≡ false → Grouped ws (i + 1) 1
   unfolding badGroup
-  grouped-other j = next 1 (omega arith) (rw (badGroup, j) at left)
+  grouped-other j = next 1 (omega arith) (rw (badGroup, ← t, j) at left)

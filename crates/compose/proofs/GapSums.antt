@@ -1,5 +1,5 @@
 -- Sums of gaps: how they add up, what they come to, and those of no gap. Assumes nothing.
-use mathlib.Core.Path.{_≡_, refl, ap}
+use mathlib.Core.Path.{_≡_, refl}
 use Prim.Native.Nat.{ℕ, _<_}
 use native.Mathlib.Omega.{arith}
 use native.Mathlib.Nat.{add-assoc, add-zero, zero-add}
@@ -19,23 +19,11 @@ nothing-plus g = simp zero-add
 
 -- some of the gaps give and take no more than all
 pub part-of : (s t c : Gap) → plus s t ≡ c → PartOf s c
-part-of s t c e =
-    record {
-      shrink₁ = omega (arith, ap (λ g. g .shrink₁) e);
-      shrink₂ = omega (arith, ap (λ g. g .shrink₂) e);
-      stretch₁ = omega (arith, ap (λ g. g .stretch₁) e);
-      stretch₂ = omega (arith, ap (λ g. g .stretch₂) e);
-    }
+part-of s t c e = rw (← e) (omega arith)
 
 -- with one gap more
 pub at-most-more : {n m : ℕ} {s g : Gap} → AtMost n s → AtMost 1 g → n < m → AtMost m (plus s g)
-at-most-more a b h =
-    record {
-      space = omega (arith, a .space, b .space);
-      shrink₁ = omega (arith, a .shrink₁, b .shrink₁);
-      shrink₂ = omega (arith, a .shrink₂, b .shrink₂);
-      stretch₂ = omega (arith, a .stretch₂, b .stretch₂);
-    }
+at-most-more a b h = omega arith
 
 -- no gap yet
 pub nothing-yet : unpacked 0 ≡ nothing

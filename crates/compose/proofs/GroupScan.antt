@@ -1,19 +1,18 @@
--- Answer 9 from the right: a record put before others keeps the rules of groups, and where they are kept neighbours of
--- one group are alike. Assumes nothing.
+-- Answer 9 from the right: a record put before others keeps the rules of groups, and so do the records from one on,
+-- where all do. Assumes nothing.
 use mathlib.Core.Path.{_≡_, refl}
 use Prim.Native.Nat.{ℕ, zero, suc, _+_, _≤_}
 use native.Mathlib.Omega.{arith}
 use mathlib.Core.Bool.{true, false, _&&_}
 use mathlib.Core.List.{List, [], _∷_}
 use mathlib.Core.Logic.{inl, inr}
-use mathlib.Core.Option.{none, some}
+use mathlib.Core.Option.{Option, none, some}
 use lib.Dec.{ltb}
 use lib.ListN.{drop}
 use borrow.Author.Tests.{lt-ltb}
 use Rattle.rules.specs.Records.{Rec}
 use Rattle.rules.specs.Groups.{sameGroup, badGroup, groupFault}
-use Rattle.rules.proofs.Facts.{tested, some-none, nil-cons}
-use Rattle.rules.proofs.Limits.{and-left}
+use Rattle.rules.proofs.Facts.{tested, some-none}
 use Rattle.compose.proofs.Faults.{alike}
 use Rattle.compose.proofs.GroupParts.{fault-less}
 
@@ -40,34 +39,21 @@ pub keeps-all : (c : ℕ) (p : Rec) (rs : List Rec) → c ≤ 16 → Keeps c p r
 unfolding Keeps groupFault
 keeps-all c p rs l k = k 1 1 (omega arith)
 
--- neighbours of one group
-alike-after : (i n : ℕ) (p : Rec) (rs : List Rec) → badGroup i n p rs ≡ none → (k : ℕ) (q r : Rec) (ss : List Rec) →
-    drop k (p ∷ rs) ≡ q ∷ r ∷ ss → sameGroup q r ≡ true → alike q r ≡ true
-unfolding badGroup
-alike-after i n p [] h zero q r ss d e = let f : [] ≡ r ∷ ss = cc in absurd (nil-cons f)
-alike-after i n p [] h (suc zero) q r ss d e = absurd (nil-cons d)
-alike-after i n p [] h (suc (suc k)) q r ss d e = absurd (nil-cons d)
-alike-after i n p (s ∷ rs) h zero q r ss d e =
-    let a : p ≡ q = cc in
-    let b : s ≡ r = cc in
-    let g : sameGroup p s ≡ true = rw (a, b) e in
-    elim (tested (alike p s && ltb n 16)) [
-      | inl f ↦ rw (← a, ← b) (and-left (alike p s) (ltb n 16) f)
-      | inr f ↦ let z : some i ≡ none = rw (g, f, badGroup) at h in absurd (some-none z)
-    ]
-alike-after i n p (s ∷ rs) h (suc k) q r ss d e =
-    elim (tested (sameGroup p s)) [
-      | inr g ↦ alike-after (suc i) 1 s rs (rw (g, badGroup) at h) k q r ss d e
-      | inl g ↦
-          elim (tested (alike p s && ltb n 16)) [
-            | inl f ↦ alike-after (suc i) (suc n) s rs (rw (g, f, badGroup) at h) k q r ss d e
-            | inr f ↦ let z : some i ≡ none = rw (g, f, badGroup) at h in absurd (some-none z)
+-- without its first record a list keeps the rules of groups
+fault-tail : (p : Rec) (rs : List Rec) → groupFault (p ∷ rs) ≡ none → groupFault rs ≡ none
+unfolding groupFault badGroup
+fault-tail p [] h = refl
+fault-tail p (r ∷ rs) h =
+    elim (tested (sameGroup p r)) [
+      | inr e ↦ fault-less 2 1 1 1 r rs (omega arith) (rw (badGroup, e) at h)
+      | inl e ↦
+          elim (tested (alike p r && ltb 1 16)) [
+            | inl d ↦ fault-less 2 1 2 1 r rs (omega arith) (rw (badGroup, e, d) at h)
+            | inr d ↦ let f : _≡_ {A = Option ℕ} (some 1) none = rw (badGroup, e, d) at h in absurd (some-none f)
           ]
     ]
 
-pub group-alike : (ps : List Rec) → groupFault ps ≡ none → (k : ℕ) (q r : Rec) (ss : List Rec) →
-    drop k ps ≡ q ∷ r ∷ ss → sameGroup q r ≡ true → alike q r ≡ true
-unfolding groupFault
-group-alike [] h zero q r ss d e = absurd (nil-cons d)
-group-alike [] h (suc k) q r ss d e = absurd (nil-cons d)
-group-alike (p ∷ ps) h k q r ss d e = alike-after 1 1 p ps h k q r ss d e
+pub fault-drop : (k : ℕ) (rs : List Rec) → groupFault rs ≡ none → groupFault (drop k rs) ≡ none
+fault-drop zero rs h = h
+fault-drop (suc k) [] h = h
+fault-drop (suc k) (r ∷ rs) h = fault-drop k rs (fault-tail r rs h)

@@ -1,26 +1,35 @@
 -- What stands after a unit, as `joint_after` finds it from the two sides. Assumes nothing.
-use mathlib.Core.Path.{_≡_, refl, _∙_}
+use mathlib.Core.Path.{_≡_, _∙_}
 use Prim.Native.Nat.{ℕ, _≤_, _<_}
-use mathlib.Core.Bool.{cond}
+use native.Mathlib.Omega.{arith}
+use mathlib.Core.Bool.{Bool, true, false}
 use mathlib.Core.List.{List}
 use Rattle.rules.specs.Records.{recAt}
 use Rattle.rules.specs.Sides.{Side, sideBy, forbidden}
 use Rattle.rules.specs.Gaps.{gapOf}
 use Rattle.rules.specs.Packed.{unpacked}
-use Rattle.rules.specs.declared.gaps.Joint.{Joint}
 use Rattle.compose.specs.Paragraph.{size}
+use Rattle.compose.specs.Rows.{bit}
 use Rattle.compose.specs.Scan.{JointAfter}
 use Rattle.compose.proofs.Walk.{from-end, unit-step}
 
+pub bit-small : (b : Bool) → bit b ≤ 1
+bit-small true = omega arith
+bit-small false = omega arith
+
 module _ (ws : List ℕ) (first i : ℕ) where
-  pub joint-none : size ws ≤ i → JointAfter ws first i (record { gap = 0; tied = 0 })
+  pub joint-none : size ws ≤ i → JointAfter ws first i 0 0
   unfolding unpacked
-  joint-none h = record { gap = rw (from-end ws i h); tied = rw (from-end ws i h) }
+  joint-none h = record { gap-is = rw (from-end ws i h); tied-is = rw (from-end ws i h); small = omega arith }
 
   pub joint-found : first < size ws → i < size ws → {l r : Side} → l ≡ sideBy (recAt ws first) →
-      r ≡ sideBy (recAt ws i) → {j : Joint} →
-      (unpacked (j .gap) ≡ gapOf l r) × (j .tied ≡ cond (forbidden l r) 1 0) → JointAfter ws first i j
-  joint-found h k p q e =
+      r ≡ sideBy (recAt ws i) → {gap tied : ℕ} → (unpacked gap ≡ gapOf l r) × (tied ≡ bit (forbidden l r)) →
+      JointAfter ws first i gap tied
+  joint-found h k {l} {r} p q e =
       let s = unit-step ws i k in
       let u = unit-step ws first h .first in
-      record { gap = e .0 ∙ rw (s .rest, s .first, u, p, q); tied = e .1 ∙ rw (s .rest, s .first, u, p, q) }
+      record {
+        gap-is = e .0 ∙ rw (s .rest, s .first, u, p, q);
+        tied-is = e .1 ∙ rw (s .rest, s .first, u, p, q);
+        small = rw (e .1) (bit-small (forbidden l r));
+      }

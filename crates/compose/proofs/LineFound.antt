@@ -1,95 +1,113 @@
--- What `longest_line` gives: the search from its first row, and the line that it ends with. Assumes nothing.
-use mathlib.Core.Path.{_≡_, ap, sym, subst, _∙_}
-use Prim.Native.Nat.{ℕ, _+_, _-_, _≤_, _<_}
+-- The loop of `longest_line`, as steps from row to row: what is left from a record on gives what the whole gives.
+-- Assumes nothing.
+use mathlib.Core.Path.{_≡_, refl, ap, sym}
+use Prim.Native.Nat.{ℕ, _+_, _*_, _-_, _/_, _%_, min, _≤_, _<_}
 use native.Mathlib.Omega.{arith}
-use mathlib.Core.List.{List}
-use mathlib.Core.Logic.{inl, inr}
-use Rattle.rules.specs.Basics.{whole}
-use Rattle.rules.specs.Groups.{counts}
+use mathlib.Core.Bool.{Bool, true, false, cond}
+use mathlib.Core.List.{List, [], _∷_}
+use mathlib.Core.Logic.{_⊎_, inl, inr}
+use lib.ListN.{length, getD}
+use lib.Seq.{take-all}
+use borrow.Author.Tests.{le-leb, lt-leb}
 use Rattle.rules.specs.Records.{records}
-use Rattle.rules.specs.Breaks.{runs, wideRun, breaking}
-use Rattle.rules.specs.Adjustment.{nothing}
-use Rattle.rules.specs.Packed.{AtMost, unpacked}
+use Rattle.rules.specs.Adjustment.{plus, nothing}
+use Rattle.rules.specs.Packed.{unpacked, leastIn, AtMost}
 use Rattle.rules.proofs.Lengths.{counts-units}
-use Rattle.rules.proofs.Packed.{unpacked-packs}
+use Rattle.rules.proofs.Packed.{at-most-255, least-unpacked}
 use Rattle.rules.proofs.Words.{length-records}
-use Rattle.compose.specs.Paragraph.{size, from, unitAt, nextAt}
-use Rattle.compose.specs.Rows.{rowsOf}
-use Rattle.compose.specs.Lines.{lineAt}
+use Rattle.compose.specs.Paragraph.{size, from}
+use Rattle.compose.specs.Rows.{Row, rowsOf, bit, Held, held-more, held-none}
 use Rattle.compose.specs.LineFrom.{LineDue, LineFrom}
 use Rattle.compose.specs.declared.breaking.LineSums.{LineSums}
-use Rattle.compose.proofs.GapSums.{nothing-yet}
+use Rattle.compose.proofs.GapSums.{at-most-more, nothing-yet}
+use Rattle.compose.proofs.Joints.{bit-small}
 use Rattle.compose.proofs.HeldRows.{length-rowsOf}
-use Rattle.compose.proofs.LongestLine.{noLine, byUnits, Chosen, Found, found}
-use Rattle.compose.proofs.LineRuns.{width-sums}
-use Rattle.compose.proofs.LineSearch.{by-rows, bestBy, given, Search}
-use Rattle.compose.proofs.LineAt.{line-is}
-use Rattle.compose.proofs.Walk.{unit-step, from-after}
+use Rattle.compose.proofs.LineSearch.{searched, by-runs}
+use Rattle.compose.proofs.LineAt.{sumsBy, given, line-found}
 
-counts-from : (ws : List ℕ) (i : ℕ) → i ≤ size ws → i + counts (from ws i) ≡ size ws
-unfolding from
-counts-from ws i h = omega (arith, counts-units (records ws i (size ws - i)), length-records ws i (size ws - i))
+-- the search is at record k, after units that end at `solid` and gaps of the sum `total`
+pub record Search (ws ds gs os : List ℕ) (m x i : ℕ) (line : LineSums) (solid total k : ℕ) : Type 0 where
+  pub left : List Row
+  pub held : Held ds gs os k left
+  pub number : k + length left ≡ size ws
+  pub same : searched m left (record { end = k; solid = solid; gaps = unpacked total }) (sumsBy line) ≡ given ws m x i
+  pub solid-limit : solid ≤ 1000000
+  pub limit : AtMost (min k 255) (unpacked total)
+  pub line-limit : AtMost 255 (unpacked (line .gaps))
+
+-- the line that is remembered after a record, whose word is w: one that ends with it, or the line before
+abbrev pub Next : ℕ → LineSums → LineSums → LineSums → Type 0
+Next w new line l = ((w % 2 ≡ 0) × (l ≡ new)) ⊎ ((w % 2 ≡ 0 → ⊥) × (l ≡ line))
+
+next-is : (tied : Bool) (a : ℕ) {w : ℕ} {new line l : LineSums} → w ≡ 2 * a + bit tied → Next w new line l →
+    sumsBy l ≡ cond tied (sumsBy line) (sumsBy new)
+next-is true a e (inl c) = absurd (omega arith)
+next-is true a e (inr c) = ap (λ l. sumsBy l) (c .1)
+next-is false a e (inl c) = ap (λ l. sumsBy l) (c .1)
+next-is false a e (inr c) = absurd (c .0 (omega arith))
+
+-- one turn, at record k: its sums stay within limits; it ends the search, or the search goes on
+pub record Turn {ws ds gs os : List ℕ} {m x i : ℕ} {line : LineSums} {solid total k : ℕ}
+    (q : Search ws ds gs os m x i line solid total k) : Type 0 where
+  pub solid-limit : solid + getD ds k 0 / 2 ≤ 1128000
+  pub sums : AtMost 255 (plus (unpacked total) (unpacked (getD gs k 0)))
+  pub over : m < solid + getD ds k 0 / 2 + leastIn total → LineFrom ws m x i line
+  pub on : {t : ℕ} {l : LineSums} → solid + getD ds k 0 / 2 + leastIn total ≤ m →
+      unpacked t ≡ plus (unpacked total) (unpacked (getD gs k 0)) →
+      Next (getD ds k 0) (record { end = k + 1; solid = solid + getD ds k 0 / 2; gaps = total }) line l →
+      Search ws ds gs os m x i l (solid + getD ds k 0 / 2) t (k + 1)
 
 module _ {ws ds gs os : List ℕ} {i m x : ℕ} (p : LineDue ws ds gs os i m x) where
-  pub search-start : {l : LineSums} → l .end ≡ i → l .solid ≡ x → l .gaps ≡ 0 → Search ws ds gs os m x i l x 0 i
-  search-start {l} a b c =
+  pub search-start : Search ws ds gs os m x i (record { end = i; solid = x; gaps = 0 }) x 0 i
+  unfolding from
+  search-start =
+      let n = size ws - i in
       record {
         left = rowsOf (from ws i);
         held = p .rows;
-        number = omega (arith, length-rowsOf (from ws i), counts-from ws i (omega (arith, p .inside)), p .inside);
-        same = rw (a, b, c, nothing-yet);
+        number = omega (arith, length-rowsOf (from ws i), counts-units (records ws i n), length-records ws i n);
+        same = rw nothing-yet (by-runs m (from ws i) _ _);
         solid-limit = p .indent;
-        limit = λ h. rw nothing-yet (omega arith);
-        line-limit = rw (c, nothing-yet) (omega arith);
+        limit = rw nothing-yet (omega arith);
+        line-limit = rw nothing-yet (omega arith);
       }
 
-  -- from the first unit on
-  searched-units : Found m x i (from ws i) (given ws m x i)
-  searched-units =
-      let s = unit-step ws i (p .inside) in
-      subst (Found m x i (from ws i)) (sym (by-rows m (from ws i) i x nothing (noLine i x)))
-      (subst (λ us. Found m x i us (byUnits m us i x nothing (noLine i x))) (sym (s .rest))
-      (found m x i (unitAt ws i) (from ws (nextAt ws i))))
+  module _ {line : LineSums} {solid total k : ℕ} (q : Search ws ds gs os m x i line solid total k) where
+    pub search-end : size ws ≤ k → LineFrom ws m x i line
+    unfolding searched
+    search-end h =
+        let none = sym (take-all 0 (q .left) (omega arith)) in
+        line-found p (q .line-limit) (rw none at (q .same))
 
-  -- the line that is remembered at the end
-  module _ {l : LineSums} (e : bestBy l ≡ given ws m x i) (b : AtMost 255 (unpacked (l .gaps))) where
-    chosen : Chosen m x i (breaking m x (runs (from ws i))) (wideRun m x i (runs (from ws i))) (from ws i)
-        (given ws m x i) → LineFrom ws m x i l
-    unfolding counts
-    chosen c =
-        let r = e ∙ c .is in
-        let j : l .end ≡ i + counts (whole (c .line)) = ap (λ f. f .end) r in
-        let a = from-after ws i (whole (c .line)) (c .rest) (omega (arith, p .inside)) (c .joins-up) in
-        let n : lineAt ws i (l .end) ≡ c .line = rw j (line-is ws i (c .line) (c .rest) (p .inside) (c .joins-up)) in
-        let rest : c .rest ≡ from ws (l .end) = rw j (a .0) in
-        let some : i < l .end = omega arith in
+    -- the sums with the gap after a row
+    sums-limit : (r : Row) (rs : List Row) → (rs ≡ [] → r .gap ≡ nothing) → AtMost 1 (r .gap) → q .left ≡ r ∷ rs →
+        AtMost (min (k + 1) 255) (plus (unpacked total) (r .gap))
+    sums-limit r [] last b e = rw (last refl) (omega arith)
+    sums-limit r (s ∷ rs) last b e =
+        at-most-more (q .limit) b (omega (arith, ap length e))
+
+    pub turn : {left : List Row} → Held ds gs os k left → q .left ≡ left → k < size ws → Turn q
+    unfolding searched
+    turn held-none e h = absurd (omega (arith, ap length e))
+    turn (held-more {r = r} {rs = rs} w last d) e h =
+        let half : getD ds k 0 / 2 ≡ r .advance = omega (arith, bit-small (r .tied)) in
+        let same = rw (e, searched, ← half, ← w .gap, ← least-unpacked total) at (q .same) in
+        let sums = sums-limit r rs last (w .gap-limit) e in
         record {
-          none-fits = λ z. let q : ⊥ = omega arith in absurd q;
-          taken = λ z.
+          solid-limit = omega arith;
+          sums = rw (w .gap) (at-most-255 sums (omega arith));
+          over = λ o. line-found p (q .line-limit) (rw (lt-leb _ _ o) at same);
+          on = λ {t} {l} o z c.
               record {
-                some = some;
-                within = rw j (a .1);
-                ends = rw n (sym j);
-                joins-up = rw (n, ← rest) (c .joins-up);
-                fits = rw n (c .fits);
-                lines = rw (n, ← rest) (c .broken);
-                wide = rw (← rest, j) (c .passed);
-              };
-          sums = λ z.
-              record {
-                solid-is = rw n (ap (λ f. f .solid) r);
-                gaps-are = rw n (ap (λ f. f .gaps) r);
-                gaps-limit = b;
-                packs = unpacked-packs (l .gaps);
-                solid-limit = omega (arith, ap (λ f. f .solid) r, width-sums (c .line), c .fits, p .measure);
+                left = rs;
+                held = d;
+                number = omega (arith, ap length e);
+                same = rw (z, next-is (r .tied) (r .advance) (w .advance) c) (rw (le-leb _ _ o) at same);
+                solid-limit = omega arith;
+                limit = rw (z, w .gap) sums;
+                line-limit = elim c [
+                  | inl n ↦ rw (n .1) (at-most-255 (q .limit) (omega arith))
+                  | inr n ↦ rw (n .1) (q .line-limit)
+                ];
               };
         }
-
-    pub line-found : LineFrom ws m x i l
-    line-found =
-        elim searched-units [
-          | inl n ↦
-              let j : l .end ≡ i = ap (λ f. f .end) (e ∙ n .0) in
-              record { none-fits = λ z. n .1; taken = λ z. absurd (z j); sums = λ z. absurd (z j) }
-          | inr c ↦ chosen c
-        ]

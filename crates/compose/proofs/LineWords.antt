@@ -1,29 +1,34 @@
--- The words of the first of some lines, and of those after it. Assumes nothing.
-use mathlib.Core.Path.{_≡_, refl, ap, _∙_}
-use Prim.Native.Nat.{ℕ, _+_, _*_}
-use native.Mathlib.Numerals.{add-one}
-use mathlib.Core.Bool.{Bool}
-use mathlib.Core.List.{List, _∷_, _++_}
-use lib.ListN.{length}
-use Rattle.rules.specs.Basics.{Run, whole}
-use Rattle.rules.specs.Groups.{TextUnit, counts}
-use Rattle.rules.specs.Adjustment.{isEmpty, lineOf, linesOf}
-use Rattle.rules.specs.Sheet.{placesOf, placeWords, lineWords}
-use Rattle.rules.proofs.Lengths.{length-placesOf, length-xs}
-use Rattle.compose.specs.Adjusted.{wordsOf}
+-- The lines of the records from one on: none after the last record; the first, and those after it. Assumes nothing.
+use mathlib.Core.Path.{_≡_}
+use Prim.Native.Nat.{ℕ, _≤_}
+use native.Mathlib.Omega.{arith}
+use mathlib.Core.List.{List, [], _∷_}
+use mathlib.Core.Logic.{inl, inr}
+use lib.Dec.{eqb}
+use borrow.Author.Tests.{eq-eqb, ne-eqb}
+use Rattle.rules.specs.Breaks.{runs, breaking}
+use Rattle.rules.specs.Adjustment.{isEmpty, lineOf, linesOf, compose}
+use Rattle.rules.proofs.Facts.{ordered}
+use Rattle.rules.proofs.Breaking.{filled-first}
+use Rattle.compose.specs.Paragraph.{size, from}
+use Rattle.compose.specs.Lines.{lineAt}
+use Rattle.compose.specs.LineFrom.{LineTaken}
+use Rattle.compose.proofs.Walk.{runs-end, runs-some}
 
-pub length-line : (k m x : ℕ) (last : Bool) (l : Run TextUnit) →
-    length (placesOf k (lineOf m x last l .xs)) ≡ 2 * counts (whole l)
-length-line k m x last l = length-placesOf k _ ∙ ap (λ n. 2 * n) (length-xs m x last l)
+pub lines-end : (ws : List ℕ) (m start i : ℕ) → size ws ≤ i → compose m start (from ws i) ≡ []
+unfolding compose linesOf breaking
+lines-end ws m start i h = rw (runs-end ws i h)
 
-pub places-first : (k m x : ℕ) (l : Run TextUnit) (ls : List (Run TextUnit)) →
-    placeWords k (linesOf m x (l ∷ ls))
-    ≡ placesOf k (lineOf m x (isEmpty ls) l .xs) ++ placeWords (k + 1) (linesOf m 0 ls)
-unfolding linesOf placeWords
-places-first k m x l ls = rw (add-one k)
+-- no line stands after record j just where no record does
+last-is : (ws : List ℕ) (m j : ℕ) → j ≤ size ws → isEmpty (breaking m 0 (runs (from ws j))) ≡ eqb j (size ws)
+unfolding breaking
+last-is ws m j h =
+    elim (ordered j (size ws)) [
+      | inl g ↦ rw (ne-eqb j (size ws) (λ e. omega arith), runs-some ws j g .2, filled-first m 0 _ _ .2)
+      | inr g ↦ rw (eq-eqb j (size ws) (omega arith), runs-end ws j g)
+    ]
 
-pub words-first : (i m x : ℕ) (l : Run TextUnit) (ls : List (Run TextUnit)) →
-    lineWords i (linesOf m x (l ∷ ls))
-    ≡ wordsOf i (lineOf m x (isEmpty ls) l) ++ lineWords (i + counts (whole l)) (linesOf m 0 ls)
-unfolding linesOf lineWords lineOf
-words-first i m x l ls = refl
+pub lines-first : {ws : List ℕ} {m start i j : ℕ} → LineTaken ws m start i j →
+    compose m start (from ws i) ≡ lineOf m start (eqb j (size ws)) (lineAt ws i j) ∷ compose m 0 (from ws j)
+unfolding compose linesOf
+lines-first {ws} {m} {start} {i} {j} t = rw (t .lines, last-is ws m j (t .within))

@@ -1,7 +1,7 @@
 -- The loop that breaks lines, as steps: what is left from a record on gives what the whole paragraph gives.
 -- Assumes nothing.
 use mathlib.Core.Path.{_≡_, refl, ap, sym, _∙_}
-use Prim.Native.Nat.{ℕ, suc, _+_, _-_, _≤_, _<_}
+use Prim.Native.Nat.{ℕ, suc, _+_, _≤_}
 use native.Mathlib.Omega.{arith}
 use native.Mathlib.Numerals.{add-one}
 use mathlib.Core.List.{List, [], _∷_, _++_, append-assoc, append-nil}
@@ -15,7 +15,6 @@ use Rattle.rules.proofs.Facts.{some-none}
 use Rattle.compose.specs.Paragraph.{size, from}
 use Rattle.compose.specs.Lines.{firsts, broken}
 use Rattle.compose.specs.LineFrom.{LineTaken, ToBreak, BrokenTo}
-use Rattle.compose.specs.declared.breaking.Stop.{Stop}
 use Rattle.compose.proofs.Walk.{runs-end}
 use Rattle.compose.proofs.LinesLeft.{Left, from-start, left-start, left-none, left-stop, left-more}
 
@@ -33,38 +32,33 @@ pub record Due (ws ds gs os : List ℕ) (m x : ℕ) (starts : List ℕ) (lines i
 
 module _ {ws ds gs os : List ℕ} {m x : ℕ} {starts : List ℕ} where
   pub due-start : ToBreak ws ds gs os m x → length starts ≡ 256 → Due ws ds gs os m x starts 0 0 x
-  due-start p e = record { left = left-start p; room = e; fewer = omega arith; all = rw from-start }
+  due-start p e = search (left-start, from-start, arith)
 
   module _ {lines i start : ℕ} (d : Due ws ds gs os m x starts lines i start) where
-    ended : size ws ≤ i → take lines starts ≡ firsts 0 (broken ws m x)
+    pub due-end : size ws ≤ i → BrokenTo ws m x starts (record { lines = lines; place = size ws })
     unfolding breaking firsts
-    ended h = sym (append-nil (take lines starts)) ∙ (rw (runs-end ws i h, breaking, firsts) at (d .all))
-
-    pub due-end : {r : Stop} → size ws ≤ i → r .lines ≡ lines → r .place ≡ size ws → BrokenTo ws m x starts r
-    due-end h e f =
-        let n : length (take lines starts) ≡ lines = length-take-le lines starts (omega (arith, d .left .few)) in
+    due-end h =
+        let n : length (take lines starts) ≡ lines = length-take-le lines starts (omega arith) in
+        let all = sym (append-nil (take lines starts)) ∙ rw (runs-end ws i h, breaking, firsts) at (d .all) in
         record {
-          place = f ∙ rw (left-none (d .left) h);
-          broken = λ z.
-              rw e
-              (record { count = sym n ∙ ap length (ended h) ∙ length-firsts 0 (broken ws m x); first = ended h });
+          place = rw (left-none (d .left) h);
+          broken = λ z. record { count = sym n ∙ ap length all ∙ length-firsts 0 (broken ws m x); first = all };
         }
 
-    pub due-stop : {r : Stop} {out : List ℕ} → wideRun m start i (runs (from ws i)) ≡ some i → r .place ≡ i →
-        BrokenTo ws m x out r
-    due-stop e f =
+    pub due-stop : {out : List ℕ} → wideRun m start i (runs (from ws i)) ≡ some i →
+        BrokenTo ws m x out (record { lines = lines; place = i })
+    due-stop e =
         let n = left-stop (d .left) e in
-        record { place = f ∙ rw n; broken = λ z. absurd (some-none (sym n ∙ z)) }
+        record { place = rw n; broken = λ z. absurd (some-none (sym n ∙ z)) }
 
-    pub due-more : {j : ℕ} → i < size ws → LineTaken ws m start i j →
-        Due ws ds gs os m x (set starts lines i) (lines + 1) j 0
+    pub due-more : {j : ℕ} → LineTaken ws m start i j → Due ws ds gs os m x (set starts lines i) (lines + 1) j 0
     unfolding firsts
-    due-more {j} h t =
+    due-more t =
         record {
           left = left-more (d .left) t;
           room = length-set starts lines i ∙ d .room;
-          fewer = omega (arith, t .some, d .fewer);
+          fewer = omega arith;
           all =
-              rw (add-one, take-suc-set starts lines i (omega (arith, d .fewer, d .room, d .left .few)), append-assoc)
+              rw (add-one, take-suc-set starts lines i (omega arith), append-assoc)
               (rw (t .lines, firsts, t .ends) at (d .all));
         }

@@ -1,15 +1,15 @@
 -- What is left of a paragraph from a record on, where a line starts: both loops over lines carry it. Assumes nothing.
-use mathlib.Core.Path.{_≡_, sym, subst, _∙_}
-use Prim.Native.Nat.{ℕ, _+_, _≤_, _<_}
+use mathlib.Core.Path.{_≡_, sym, _∙_}
+use Prim.Native.Nat.{ℕ, _≤_, _<_}
 use native.Mathlib.Omega.{arith}
 use native.Mathlib.Nat.{sub-zero}
-use mathlib.Core.List.{List, _++_}
+use mathlib.Core.List.{List}
 use mathlib.Core.Option.{none, some}
 use Rattle.rules.specs.Basics.{whole}
 use Rattle.rules.specs.Groups.{units}
 use Rattle.rules.specs.Breaks.{runs, wideRun, noBreaking}
 use Rattle.compose.specs.Paragraph.{size, paragraph, from}
-use Rattle.compose.specs.Rows.{rowsOf, Rowed, Held}
+use Rattle.compose.specs.Rows.{Rowed}
 use Rattle.compose.specs.Lines.{lineAt}
 use Rattle.compose.specs.LineFrom.{LineDue, LineTaken, ToBreak}
 use Rattle.compose.proofs.HeldRows.{held-after}
@@ -32,15 +32,7 @@ pub record Left (ws ds gs os : List ℕ) (m x i start : ℕ) : Type 0 where
 module _ {ws ds gs os : List ℕ} {m x : ℕ} where
   pub left-start : ToBreak ws ds gs os m x → Left ws ds gs os m x 0 x
   unfolding noBreaking
-  left-start p =
-      record {
-        few = p .few;
-        within = omega arith;
-        rows = p .rows;
-        measure = p .measure;
-        indent = p .indent;
-        wide = rw from-start;
-      }
+  left-start p = search (from-start, arith)
 
   module _ {i start : ℕ} (q : Left ws ds gs os m x i start) where
     -- nothing is left, and every run fits
@@ -49,24 +41,16 @@ module _ {ws ds gs os : List ℕ} {m x : ℕ} where
     left-none h = sym (q .wide) ∙ rw (runs-end ws i h)
 
     pub left-line : i < size ws → LineDue ws ds gs os i m start
-    left-line h = record { few = q .few; inside = h; rows = q .rows; measure = q .measure; indent = q .indent }
+    left-line h = search
 
     -- no line fits
     pub left-stop : wideRun m start i (runs (from ws i)) ≡ some i → noBreaking m x (units (paragraph ws)) ≡ some i
-    left-stop e = sym (q .wide) ∙ e
+    left-stop e = cc
 
     -- one line is taken
     pub left-more : {j : ℕ} → LineTaken ws m start i j → Left ws ds gs os m x j 0
     left-more {j} t =
-        let h : Held ds gs os i (rowsOf (whole (lineAt ws i j) ++ from ws j)) =
-        subst (λ us. Held ds gs os i (rowsOf us)) (sym (t .joins-up)) (q .rows) in
-        record {
-          few = q .few;
-          within = t .within;
-          rows =
-              subst (λ k. Held ds gs os k (rowsOf (from ws j))) (t .ends)
-              (held-after (whole (lineAt ws i j)) (from ws j) h);
-          measure = q .measure;
-          indent = omega arith;
-          wide = sym (t .wide) ∙ q .wide;
-        }
+        let rows : Rowed ws ds gs os j =
+        rw (t .ends) at (held-after (whole (lineAt ws i j)) (from ws j) (rw (← t .joins-up) at (q .rows))) in
+        let wide : wideRun m 0 j (runs (from ws j)) ≡ noBreaking m x (units (paragraph ws)) = cc in
+        search arith

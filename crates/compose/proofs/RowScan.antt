@@ -6,27 +6,27 @@ use native.Mathlib.Omega.{arith}
 use native.Mathlib.Nat.{sub-zero}
 use mathlib.Core.Bool.{true, false}
 use mathlib.Core.List.{List}
-use lib.ListN.{length, set}
 use borrow.Author.Tests.{eqb-true}
-use Rattle.rules.specs.Records.{Rec, recAt, rowOf, groupOk}
+use Rattle.rules.specs.Records.{Rec, recAt, rowOf, classOk, groupOk}
 use Rattle.rules.specs.Groups.{groupFault, shift, baseOffset, groupAdvance}
-use Rattle.rules.specs.Sides.{sideBy}
+use Rattle.rules.specs.Sides.{Side, sideBy}
 use Rattle.rules.specs.Values.{SideOk}
 use Rattle.rules.specs.Meanings.{all-none}
-use Rattle.rules.specs.declared.gaps.Joint.{Joint}
 use Rattle.rules.proofs.Facts.{true-false}
 use Rattle.rules.proofs.Limits.{asked}
-use Rattle.compose.specs.Paragraph.{size, from, unitAt, Checked}
-use Rattle.compose.specs.Rows.{outer, rowsOf, held-none}
-use Rattle.compose.specs.Scan.{Fine, Scanning, UnitOf, ColumnFrom, JointDue, JointAfter, RowsScanned, UnitToFill}
-use Rattle.compose.specs.Scan.{RowsFilled, Filled, UnitFilled, RowsFrom, Scanned, Front}
+use Rattle.compose.specs.Paragraph.{size}
+use Rattle.compose.specs.Rows.{rowsOf, held-none}
+use Rattle.compose.specs.Scan.{Fine, Scanning, UnitBefore, ColumnFrom, JointDue, JointAfter, RowsScanned}
+use Rattle.compose.specs.Scan.{UnitToFill, RowsFilled, Filled, UnitFilled, RowsFrom, Scanned, Front}
+use Rattle.compose.specs.declared.units.UnitSums.{UnitSums}
 use Rattle.compose.proofs.Walk.{from-end}
 use Rattle.compose.proofs.Checked.{fine-checked}
 use Rattle.compose.proofs.Faults.{records-end}
 use Rattle.compose.proofs.Limits.{side-limits}
 use Rattle.compose.proofs.UnitWalk.{unit-alone}
 use Rattle.compose.proofs.RowsBelow.{below-refl, below-trans}
-use Rattle.compose.proofs.UnitRows.{bit-small, fill-start, fill-done}
+use Rattle.compose.proofs.RowsStored.{Stored}
+use Rattle.compose.proofs.UnitRows.{fill-start, fill-done}
 
 -- rows filled, and filled on --------------------------------------------------------------------------------------
 
@@ -40,102 +40,89 @@ module _ {ws : List ℕ} {start : ℕ} where
       Filled ws start i ds₀ gs₀ os₀ ds₂ gs₂ os₂ k c
   filled-more f g =
       record {
-        low = omega (arith, f .low, g .low);
+        low = omega arith;
         scanned = g .scanned;
         column-is = g .column-is;
         below = below-trans (f .below) (g .below) (g .low);
       }
 
-  -- a unit is less left
-  pub filled-lower : {i j c : ℕ} {ds₀ gs₀ os₀ ds gs os : List ℕ} → Filled ws start i ds₀ gs₀ os₀ ds gs os j c →
-      (j ≡ i → ⊥) → j < i
-  filled-lower f n = omega (arith, f .low, n)
-
-  -- tables with room for all rows are as long as others
-  pub same-rooms : {i j : ℕ} {ds₀ gs₀ os₀ ds gs os : List ℕ} → RowsScanned ws start i ds₀ gs₀ os₀ →
-      RowsScanned ws start j ds gs os → (length ds ≡ length ds₀) × (length gs ≡ length gs₀) × (length os ≡ length os₀)
-  same-rooms s t = (
-    t .advance-room ∙ sym (s .advance-room),
-    t .gap-room ∙ sym (s .gap-room),
-    t .offset-room ∙ sym (s .offset-room),
-  )
-
   -- a column's side is in order
   pub next-ok : {i : ℕ} → Scanning ws start i → i < size ws → SideOk (sideBy (recAt ws i))
   next-ok {i} s h = side-limits ws i (s .sound) i (omega arith) h
 
--- answer 8, 12 or 9 applies to a record of the unit before record i
-pub unit-ill : {ws : List ℕ} {start i column : ℕ} {ds₀ gs₀ os₀ ds gs os : List ℕ} → (Checked ws → ⊥) →
-    UnitFilled ws start i ds₀ gs₀ os₀ ds gs os i column
-unit-ill h = record { ill = λ e. h; filled = λ n. absurd (n refl) }
+-- the unit before record i ------------------------------------------------------------------------------------------
 
--- a unit that is met ------------------------------------------------------------------------------------------------
+module _ {ws : List ℕ} {start i : ℕ} {r : UnitSums} (b : UnitBefore ws start i r) where
+  -- answer 8, 12 or 9 applies to one of its records
+  pub unit-ill : {column : ℕ} {ds₀ gs₀ os₀ ds gs os : List ℕ} → r .first ≡ i →
+      UnitFilled ws start i ds₀ gs₀ os₀ ds gs os i column
+  unit-ill e = record { ill = λ z. b .ill e; filled = λ n. absurd (n refl) }
 
--- the unit of the records from `first` up to i, where the rows from record i on are filled
-module _ {ws : List ℕ} {start i first base : ℕ} {ds gs os : List ℕ} (p : RowsScanned ws start i ds gs os)
-    (u : UnitOf ws first i base) where
-  inside : first < size ws
-  inside = omega (arith, u .order, u .within)
+  -- it is met; the rows from record i on are filled
+  module _ (n : r .first ≡ i → ⊥) where
+    pub unit-inside : r .first < size ws
+    unit-inside = let u = b .unit n .1 in omega arith
 
-  pub unit-side : SideOk (sideBy (recAt ws first))
-  unit-side = side-limits ws first (u .fine) first (omega arith) inside
+    unit-side : SideOk (sideBy (recAt ws (r .first)))
+    unit-side = side-limits ws (r .first) (b .unit n .1 .fine) (r .first) (omega arith) unit-inside
 
-  pub joint-due : {row column : ℕ} → row ≡ rowOf (sideBy (recAt ws first) .class) → ColumnFrom ws i column →
-      JointDue ws first i row column
-  joint-due e c =
-      record { inside = inside; left = unit-side; right = next-ok (p .scanning); row-is = e; column-is = c }
+    -- what its neighbours see of it
+    module _ {s : Side} (e : s ≡ sideBy (recAt ws (r .first))) where
+      pub unit-class : classOk (s .class) ≡ true
+      unit-class = rw e (unit-side .class)
 
-  pub to-fill : {j : Joint} → JointAfter ws first i j → UnitToFill ws first i base (j .gap) (j .tied) ds gs os
-  to-fill a =
-      record {
-        unit = u;
-        rows = p .rows;
-        gap-is = a .gap;
-        tied-is = a .tied;
-        advance-room = p .advance-room;
-        gap-room = p .gap-room;
-        offset-room = p .offset-room;
-      }
-
-  pub unit-filled : {row : ℕ} {ds′ gs′ os′ : List ℕ} → Scanning ws start first →
-      row ≡ rowOf (sideBy (recAt ws first) .class) → RowsFilled ws first ds gs os ds′ gs′ os′ →
-      Filled ws start i ds gs os ds′ gs′ os′ first row
-  unit-filled s e f =
-      record {
-        low = omega (arith, u .order);
-        scanned =
+      module _ {ds gs os : List ℕ} (p : RowsScanned ws start i ds gs os) {row : ℕ} (w : row ≡ rowOf (s .class)) where
+        pub joint-due : {column : ℕ} → ColumnFrom ws i column → JointDue ws (r .first) i row column
+        joint-due c =
             record {
-              scanning = s;
-              rows = f .rows;
-              advance-room = f .advance-room;
-              gap-room = f .gap-room;
-              offset-room = f .offset-room;
-            };
-        column-is = λ h. e;
-        below = f .below;
-      }
+              inside = unit-inside;
+              left = unit-side;
+              right = next-ok (p .filled .scanning);
+              row-is = rw (w, e);
+              column-is = c;
+            }
 
-pub tied-small : {ws : List ℕ} {first i : ℕ} {j : Joint} → JointAfter ws first i j → j .tied ≤ 1
-tied-small {ws} {first} {i} a = rw (a .tied) (bit-small (outer (unitAt ws first) (from ws i) 0 .tied))
+        pub unit-filled : {ds′ gs′ os′ : List ℕ} → RowsFilled ws (r .first) ds gs os ds′ gs′ os′ →
+            UnitFilled ws start i ds gs os ds′ gs′ os′ (r .first) row
+        unit-filled f =
+            record {
+              ill = b .ill;
+              filled =
+                  λ m.
+                  let u = b .unit n in
+                  record {
+                    low = omega arith;
+                    scanned = record { filled = record { scanning = u .0; rows = f .rows }; rooms = f .rooms };
+                    column-is = λ h. rw (w, e);
+                    below = f .below;
+                  };
+            }
+
+    pub to-fill : {ds gs os : List ℕ} → RowsScanned ws start i ds gs os → {gap tied : ℕ} →
+        JointAfter ws (r .first) i gap tied → UnitToFill ws (r .first) i (r .base) gap tied ds gs os
+    to-fill p a = record { unit = b .unit n .1; joint = a; rows = p .filled .rows; rooms = p .rooms }
 
 -- a record of no group ----------------------------------------------------------------------------------------------
 
 -- r is the record before record i
 module _ {ws : List ℕ} {start i : ℕ} {ds gs os : List ℕ} (p : RowsScanned ws start i ds gs os) (h : 0 < i) {r : Rec}
     (q : r ≡ recAt ws (i - 1)) (f : Fine r) (g : r .group ≡ 0) where
-  lone : (Scanning ws start (i - 1)) × (UnitOf ws (i - 1) i (r .advance))
-  lone =
-      let b = unit-alone (p .scanning) (i - 1) (omega arith) q f g in
-      let n : i - 1 ≡ i → ⊥ = λ e. omega arith in
-      (b .scanning n, b .unit n)
+  lone : UnitBefore ws start i (record { first = i - 1; base = r .advance })
+  lone = unit-alone (p .filled .scanning) (i - 1) (omega arith) q f g
 
-  pub lone-row : {row : ℕ} → row ≡ rowOf (r .class) → row ≡ rowOf (sideBy (recAt ws (i - 1)) .class)
+  met : i - 1 ≡ i → ⊥
+  met e = omega arith
+
+  side : sideBy r ≡ sideBy (recAt ws (i - 1))
+  side = ap (λ r. sideBy r) q
+
+  own-class : r .class ≡ sideBy r .class
   unfolding sideBy
-  lone-row e = e ∙ ap rowOf (rw g at (ap (λ r. sideBy r .class) q))
+  own-class = rw g
 
   pub lone-due : {row column : ℕ} → row ≡ rowOf (r .class) → ColumnFrom ws i column →
       JointDue ws (i - 1) i row column
-  lone-due e c = joint-due p (lone .1) (lone-row e) c
+  lone-due e c = joint-due lone met side p (e ∙ ap rowOf own-class) c
 
   no-ruby : r .ruby ≡ 0
   unfolding groupOk
@@ -150,13 +137,13 @@ module _ {ws : List ℕ} {start i : ℕ} {ds gs os : List ℕ} (p : RowsScanned 
   unfolding groupAdvance
   own-advance = rw no-ruby (omega arith)
 
-  pub lone-filled : {row : ℕ} {j : Joint} {ds′ gs′ os′ : List ℕ} → row ≡ rowOf (r .class) →
-      JointAfter ws (i - 1) i j → ds′ ≡ set ds (i - 1) (2 * r .advance + j .tied) → gs′ ≡ set gs (i - 1) (j .gap) →
-      os′ ≡ set os (i - 1) 0 → Filled ws start i ds gs os ds′ gs′ os′ (i - 1) row
-  lone-filled e a x y z =
-      let t = to-fill p (lone .1) a in
-      unit-filled p (lone .1) (lone .0) (lone-row e)
-      (fill-done t q (fill-start t) no-offset (omega arith) own-advance x y z)
+  pub lone-filled : {row gap tied : ℕ} {ds′ gs′ os′ : List ℕ} → row ≡ rowOf (r .class) →
+      JointAfter ws (i - 1) i gap tied → Stored (i - 1) (2 * r .advance + tied) gap 0 ds gs os ds′ gs′ os′ →
+      Filled ws start i ds gs os ds′ gs′ os′ (i - 1) row
+  lone-filled e a s =
+      let t = to-fill lone met p a in
+      let w = fill-done t q (fill-start t) no-offset (omega arith) own-advance s in
+      unit-filled lone met side p (e ∙ ap rowOf own-class) w .filled met
 
 -- how the scan starts and ends --------------------------------------------------------------------------------------
 
@@ -179,17 +166,16 @@ rows-none {ws} h =
     }
 
 module _ {ws : List ℕ} {start stop : ℕ} {ds₀ gs₀ os₀ ds gs os : List ℕ} where
-  pub scan-ill : (Checked ws → ⊥) → Scanned ws start stop ds₀ gs₀ os₀ ds gs os false
-  scan-ill h = record { reached = λ d. absurd (true-false (sym d)); ill = λ d. h }
+  pub scan-ill : {i first column : ℕ} {ds₁ gs₁ os₁ : List ℕ} →
+      UnitFilled ws start i ds₁ gs₁ os₁ ds gs os first column → first ≡ i →
+      Scanned ws start stop ds₀ gs₀ os₀ ds gs os false
+  scan-ill f e = record { reached = λ d. absurd (true-false (sym d)); ill = λ d. f .ill e }
 
   pub scan-reached : {end i column : ℕ} → Filled ws start end ds₀ gs₀ os₀ ds gs os i column → i ≤ stop →
       Scanned ws start stop ds₀ gs₀ os₀ ds gs os true
   scan-reached {i = i} f l =
-      let s = f .scanned in
       record {
-        reached =
-            λ d.
-            record { at = i; low = l; rows = record { scanning = s .scanning; rows = s .rows }; below = f .below };
+        reached = λ d. record { at = i; low = l; rows = f .scanned .filled; below = f .below };
         ill = λ d. absurd (true-false d);
       }
 

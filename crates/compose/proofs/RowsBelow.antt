@@ -1,10 +1,8 @@
--- Tables that have the same rows below a row: stores at or after it, and one change after the other. Assumes nothing.
+-- Tables that have the same rows below a row, one change after the other. Assumes nothing.
 use mathlib.Core.Path.{refl, _∙_}
 use Prim.Native.Nat.{ℕ, _≤_}
 use native.Mathlib.Omega.{arith}
 use mathlib.Core.List.{List}
-use lib.ListN.{set}
-use lib.Seq.{getD-set-other}
 use Rattle.compose.specs.Scan.{Below}
 
 pub below-refl : (n : ℕ) (ds gs os : List ℕ) → Below n ds gs os ds gs os
@@ -20,12 +18,6 @@ below-trans a b l =
       offsets = λ m h. b .offsets m h ∙ a .offsets m (omega arith);
     }
 
--- row j is stored
-pub below-set : (a g o : ℕ) {n j : ℕ} {ds₀ gs₀ os₀ ds gs os : List ℕ} → Below n ds₀ gs₀ os₀ ds gs os → n ≤ j →
-    Below n ds₀ gs₀ os₀ (set ds j a) (set gs j g) (set os j o)
-below-set a g o {j = j} {ds = ds} {gs = gs} {os = os} b l =
-    record {
-      advances = λ k h. getD-set-other ds j k a 0 (λ e. omega arith) ∙ b .advances k h;
-      gaps = λ k h. getD-set-other gs j k g 0 (λ e. omega arith) ∙ b .gaps k h;
-      offsets = λ k h. getD-set-other os j k o 0 (λ e. omega arith) ∙ b .offsets k h;
-    }
+pub below-less : {n k : ℕ} {ds₀ gs₀ os₀ ds gs os : List ℕ} → Below n ds₀ gs₀ os₀ ds gs os → k ≤ n →
+    Below k ds₀ gs₀ os₀ ds gs os
+below-less b l = below-trans b (below-refl _ _ _ _) l

@@ -1,10 +1,10 @@
--- Tables that hold rows: what a stored row holds, that rows after it stay, and a unit's rows, written one after the
--- other. Assumes nothing.
+-- Tables that hold rows: what a stored row holds, and that the others stay; and the words of a unit's rows. Assumes
+-- nothing.
 use mathlib.Core.Path.{_≡_, refl, ap, sym}
 use Prim.Native.Nat.{ℕ, _+_, _*_, _≤_, _<_}
 use native.Mathlib.Omega.{arith}
 use mathlib.Core.List.{List, [], _∷_, _++_}
-use lib.ListN.{length, getD, set}
+use lib.ListN.{getD, set, length-set}
 use lib.Seq.{getD-set-same, getD-set-other}
 use Rattle.rules.specs.Groups.{TextUnit, advance, offsets, baseOffsets}
 use Rattle.rules.specs.Adjustment.{nothing}
@@ -12,63 +12,61 @@ use Rattle.rules.specs.Packed.{unpacked}
 use Rattle.rules.proofs.Facts.{nil-cons}
 use Rattle.rules.proofs.GapWords.{GapBounds}
 use Rattle.compose.specs.Rows.{Row, inner, outer, unitRows, rowsOf, bit, RowIs, Held, held-none, held-more}
+use Rattle.compose.specs.Scan.{Rooms, Below}
 
 -- the three words of row i
 abbrev pub RowAt : Row → List ℕ → List ℕ → List ℕ → ℕ → Type 0
 RowAt r ds gs os i = RowIs r (getD ds i 0) (getD gs i 0) (getD os i 0)
 
--- one row stored, the j-th
-module _ (ds gs os : List ℕ) (j a g o : ℕ) where
-  pub row-stored : {r : Row} → RowIs r a g o → j < length ds → j < length gs → j < length os →
-      RowAt r (set ds j a) (set gs j g) (set os j o) j
-  row-stored h k l m = rw (getD-set-same ds j a 0 k, getD-set-same gs j g 0 l, getD-set-same os j o 0 m) h
+pub row-below : {r : Row} {n i : ℕ} {ds gs os ds′ gs′ os′ : List ℕ} → Below n ds gs os ds′ gs′ os′ → i < n →
+    RowAt r ds gs os i → RowAt r ds′ gs′ os′ i
+row-below {i = i} b l h = rw (b .advances i l, b .gaps i l, b .offsets i l) h
 
-  row-kept : {r : Row} (i : ℕ) → (i ≡ j → ⊥) → RowAt r ds gs os i → RowAt r (set ds j a) (set gs j g) (set os j o) i
-  row-kept i n h = rw (getD-set-other ds j i a 0 n, getD-set-other gs j i g 0 n, getD-set-other os j i o 0 n) h
+-- row j is stored
+pub record Stored (j a g o : ℕ) (ds gs os ds′ gs′ os′ : List ℕ) : Type 0 where
+  pub words : (ds′ ≡ set ds j a) × ((gs′ ≡ set gs j g) × (os′ ≡ set os j o))
 
-  pub held-kept : {i : ℕ} {rs : List Row} → j < i → Held ds gs os i rs →
-      Held (set ds j a) (set gs j g) (set os j o) i rs
+module _ {j a g o : ℕ} {ds gs os ds′ gs′ os′ : List ℕ} (s : Stored j a g o ds gs os ds′ gs′ os′) where
+  pub row-stored : {r : Row} → RowIs r a g o → Rooms ds gs os → j < 256 → RowAt r ds′ gs′ os′ j
+  row-stored h m l =
+      let e = s .words in
+      rw (
+        e .0,
+        e .1 .0,
+        e .1 .1,
+        getD-set-same ds j a 0 (omega arith),
+        getD-set-same gs j g 0 (omega arith),
+        getD-set-same os j o 0 (omega arith),
+      ) h
+
+  other : (k : ℕ) → (k ≡ j → ⊥) →
+      (getD ds′ k 0 ≡ getD ds k 0) × (getD gs′ k 0 ≡ getD gs k 0) × (getD os′ k 0 ≡ getD os k 0)
+  other k n =
+      let e = s .words in
+      (rw (e .0, getD-set-other), rw (e .1 .0, getD-set-other), rw (e .1 .1, getD-set-other))
+
+  pub below-stored : {n : ℕ} → n ≤ j → Below n ds gs os ds′ gs′ os′
+  below-stored h =
+      record {
+        advances = λ k l. other k (λ q. omega arith) .0;
+        gaps = λ k l. other k (λ q. omega arith) .1;
+        offsets = λ k l. other k (λ q. omega arith) .2;
+      }
+
+  pub held-kept : {i : ℕ} {rs : List Row} → j < i → Held ds gs os i rs → Held ds′ gs′ os′ i rs
   held-kept l held-none = held-none
-  held-kept {i} l (held-more r e h) = held-more (row-kept i (λ q. omega arith) r) e (held-kept (omega arith) h)
+  held-kept l (held-more {i = i} r n h) =
+      let o = other i (λ q. omega arith) in
+      held-more (rw (← o .0, ← o .1, ← o .2) at r) n (held-kept (omega arith) h)
 
--- rows from row i up to row e that are not the last of their unit, by their offsets
-pub data Written (ds gs os : List ℕ) : ℕ → List ℕ → ℕ → Type 0 where
-  written-none : {i : ℕ} → Written ds gs os i [] i
-  written-more : {i e p : ℕ} {ps : List ℕ} → RowAt (inner p) ds gs os i → Written ds gs os (i + 1) ps e →
-      Written ds gs os i (p ∷ ps) e
-
-module _ {ds gs os : List ℕ} where
-  written-order : {i e : ℕ} {ps : List ℕ} → Written ds gs os i ps e → i ≤ e
-  written-order written-none = omega arith
-  written-order (written-more r w) = omega (arith, written-order w)
-
-  -- row e is stored
-  pub written-kept : (a g o : ℕ) {i e : ℕ} {ps : List ℕ} → Written ds gs os i ps e →
-      Written (set ds e a) (set gs e g) (set os e o) i ps e
-  written-kept a g o written-none = written-none
-  written-kept a g o {i} {e} (written-more r w) =
-      let l = written-order w in
-      written-more (row-kept ds gs os e a g o i (λ q. omega arith) r) (written-kept a g o w)
-
-  pub written-last : {i e p : ℕ} {ps : List ℕ} → Written ds gs os i ps e → RowAt (inner p) ds gs os e →
-      Written ds gs os i (ps ++ p ∷ []) (e + 1)
-  written-last written-none h = written-more h written-none
-  written-last (written-more r w) h = written-more r (written-last w h)
-
-rows-more : (u : TextUnit) (us : List TextUnit) (p : ℕ) (ps : List ℕ) (o : ℕ) →
-    unitRows u us (p ∷ ps ++ o ∷ []) ≡ inner p ∷ unitRows u us (ps ++ o ∷ [])
-unfolding unitRows
-rows-more u us p [] o = refl
-rows-more u us p (q ∷ ps) o = refl
-
--- with the last row all rows of the unit are held
-pub unit-held : {ds gs os : List ℕ} (u : TextUnit) (us : List TextUnit) (o : ℕ) {i e : ℕ} {ps : List ℕ}
-    {rs : List Row} → Written ds gs os i ps e → Held ds gs os e (outer u us o ∷ rs) →
-    Held ds gs os i (unitRows u us (ps ++ o ∷ []) ++ rs)
-unfolding unitRows
-unit-held u us o written-none h = h
-unit-held u us o (written-more {p = p} {ps = ps} r w) h =
-    rw (rows-more u us p ps o) (held-more r (λ e. refl) (unit-held u us o w h))
+  pub rooms-kept : Rooms ds gs os → Rooms ds′ gs′ os′
+  rooms-kept m =
+      let e = s .words in
+      record {
+        advances = rw (e .0, length-set) (m .advances);
+        gaps = rw (e .1 .0, length-set) (m .gaps);
+        offsets = rw (e .1 .1, length-set) (m .offsets);
+      }
 
 -- the words of a unit's rows ---------------------------------------------------------------------------------------
 
@@ -80,16 +78,17 @@ inner-is h =
       gap = refl;
       offset = refl;
       advance-limit = omega arith;
-      gap-limit = record { space = omega arith; shrink₁ = omega arith; shrink₂ = omega arith; stretch₂ = omega arith };
-      packs = record { gives = omega arith; twice = refl };
+      gap-limit = omega arith;
+      packs = omega arith;
       offset-limit = h;
     }
 
 pub outer-is : (u : TextUnit) (us : List TextUnit) {w t o : ℕ} → unpacked w ≡ outer u us 0 .gap →
     t ≡ bit (outer u us 0 .tied) → advance u ≤ 128000 → GapBounds (outer u us 0 .gap) → o ≤ 256000 →
     RowIs (outer u us o) (2 * advance u + t) w o
-outer-is u [] p q a b l =
-    record {
+outer-is u us {o = o} p q a b l =
+    let e = outer-by u us o in
+    rw e (record {
       advance = ap (λ x. 2 * advance u + x) q;
       gap = p;
       offset = refl;
@@ -97,17 +96,13 @@ outer-is u [] p q a b l =
       gap-limit = b .at-most;
       packs = b .packs;
       offset-limit = l;
-    }
-outer-is u (v ∷ us) p q a b l =
-    record {
-      advance = ap (λ x. 2 * advance u + x) q;
-      gap = p;
-      offset = refl;
-      advance-limit = a;
-      gap-limit = b .at-most;
-      packs = b .packs;
-      offset-limit = l;
-    }
+    })
+  where
+    outer-by : (u : TextUnit) (us : List TextUnit) (o : ℕ) →
+        outer u us o
+        ≡ record { advance = advance u; tied = outer u us 0 .tied; gap = outer u us 0 .gap; offset = o }
+    outer-by u [] o = refl
+    outer-by u (v ∷ us) o = refl
 
 -- a unit has a row
 some-row : (u : TextUnit) (us : List TextUnit) (o : ℕ) (ps : List ℕ) (rs : List Row) →

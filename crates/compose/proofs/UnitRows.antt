@@ -3,15 +3,14 @@ use mathlib.Core.Path.{_≡_, refl, ap, sym, _∙_}
 use Prim.Native.Nat.{ℕ, suc, _+_, _*_, _-_, _≤_, _<_}
 use native.Mathlib.Omega.{arith}
 use native.Mathlib.Nat.{add-zero, sub-zero}
-use mathlib.Core.Bool.{Bool, true, false}
-use mathlib.Core.List.{List, [], _∷_, _++_, append-assoc}
+use mathlib.Core.List.{List, [], _∷_, _++_}
 use mathlib.Core.Logic.{inl, inr}
-use lib.ListN.{length, take, set, length-set}
+use lib.ListN.{take}
 use lib.Seq.{take-at}
 use Rattle.rules.specs.Basics.{whole, joined}
 use Rattle.rules.specs.Records.{Rec, recAt, records}
-use Rattle.rules.specs.Groups.{sameGroup, units, count, baseTotal, rubyTotal, baseOffset, offsets, baseOffsets}
-use Rattle.rules.specs.Groups.{groupAdvance, advance}
+use Rattle.rules.specs.Groups.{TextUnit, sameGroup, units, count, baseTotal, rubyTotal, baseOffset, offsets}
+use Rattle.rules.specs.Groups.{baseOffsets, groupAdvance, advance}
 use Rattle.rules.specs.Values.{OffsetBounds}
 use Rattle.rules.proofs.Bounds.{rubyTotal-small, shift-small}
 use Rattle.rules.proofs.Cuts.{cut-joined}
@@ -19,13 +18,13 @@ use Rattle.rules.proofs.Facts.{ordered}
 use Rattle.rules.proofs.GapWords.{GapBounds, gap-bounds}
 use Rattle.rules.proofs.Words.{take-records}
 use Rattle.compose.specs.Paragraph.{size, from, unitAt, nextAt}
-use Rattle.compose.specs.Rows.{outer, rowsOf, bit, RowIs, held-more, Rowed}
-use Rattle.compose.specs.Scan.{UnitToFill, Below, RowsFilled}
+use Rattle.compose.specs.Rows.{Row, inner, outer, unitRows, rowsOf, RowIs, Held, held-more, Rowed}
+use Rattle.compose.specs.Scan.{UnitToFill, Rooms, Below, RowsFilled}
 use Rattle.compose.proofs.Walk.{from-end, unit-step}
 use Rattle.compose.proofs.Limits.{record-limits, side-limits, unit-advance}
-use Rattle.compose.proofs.RowsStored.{held-kept, Written, written-none, written-kept, written-last, row-stored}
-use Rattle.compose.proofs.RowsStored.{unit-held, inner-is, outer-is, last-gap}
-use Rattle.compose.proofs.RowsBelow.{below-refl, below-set}
+use Rattle.compose.proofs.RowsStored.{row-below, Stored, row-stored, below-stored, held-kept, rooms-kept}
+use Rattle.compose.proofs.RowsStored.{inner-is, outer-is, last-gap}
+use Rattle.compose.proofs.RowsBelow.{below-refl, below-trans, below-less}
 
 -- a unit's records, by their number
 unit-whole : (ws : List ℕ) (a : ℕ) → a < size ws → whole (unitAt ws a) ≡ records ws a (count (unitAt ws a))
@@ -67,125 +66,91 @@ offsets-end : (ws : List ℕ) (a k solid : ℕ) → count (unitAt ws a) ≤ k �
 unfolding offsetsFrom records offsets
 offsets-end ws a k solid h = let e : count (unitAt ws a) - k ≡ 0 = omega arith in rw e
 
-pub bit-small : (b : Bool) → bit b ≤ 1
-bit-small true = omega arith
-bit-small false = omega arith
+-- the unit's rows from record k on, and those after the unit
+abbrev rowsLeft : List ℕ → ℕ → ℕ → ℕ → ℕ → List Row
+rowsLeft ws first end k solid =
+    unitRows (unitAt ws first) (from ws end) (offsetsFrom ws first k solid) ++ rowsOf (from ws end)
 
--- k rows are written, and the last one is not; `solid` is what their records take
+-- k rows are written, and the last one is not: tables that have these and hold what is left hold all. `solid` is what
+-- their records take.
 pub record UnitFilling (ws : List ℕ) (first end : ℕ) (ds₀ gs₀ os₀ ds gs os : List ℕ) (solid k : ℕ) : Type 0 where
   pub inside : first + k < end
-  pub done : List ℕ
-  pub written : Written ds gs os first done (first + k)
-  pub left : done ++ offsetsFrom ws first k solid ≡ baseOffsets (unitAt ws first)
+  pub all : {ds′ gs′ os′ : List ℕ} → Below (first + k) ds gs os ds′ gs′ os′ →
+      Held ds′ gs′ os′ (first + k) (rowsLeft ws first end k solid) → Rowed ws ds′ gs′ os′ first
   pub rows : Rowed ws ds gs os end
   pub below : Below first ds₀ gs₀ os₀ ds gs os
   pub limit : solid ≤ 8000 * k
-  pub advance-room : length ds ≡ 256
-  pub gap-room : length gs ≡ 256
-  pub offset-room : length os ≡ 256
+  pub rooms : Rooms ds gs os
 
 module _ {ws : List ℕ} {first end base gap tied : ℕ} {ds₀ gs₀ os₀ : List ℕ}
     (t : UnitToFill ws first end base gap tied ds₀ gs₀ os₀) where
-  -- what is known of the unit
-  pub record UnitLimits : Type 0 where
-    pub start : first < size ws
-    pub last : end ≤ 256
-    pub records : end - first ≡ count (unitAt ws first)
-    pub few : end - first ≤ 16
-    pub some : first < end
-    pub tied-small : tied ≤ 1
-
-  pub unit-limits : UnitLimits
-  unit-limits =
-      let u = t .unit in
-      record {
-        start = omega (arith, u .order, u .within);
-        last = omega (arith, u .within, u .few);
-        records = omega (arith, u .ends);
-        few = omega (arith, u .ends, u .few-records);
-        some = u .order;
-        tied-small = rw (t .tied-is) (bit-small (outer (unitAt ws first) (from ws end) 0 .tied));
-      }
+  abbrev u : TextUnit
+  u = unitAt ws first
 
   pub fill-start : UnitFilling ws first end ds₀ gs₀ os₀ ds₀ gs₀ os₀ 0 0
+  unfolding rowsOf
   fill-start =
-      let l = unit-limits in
       record {
         inside = omega arith;
-        done = [];
-        written = rw add-zero written-none;
-        left = offsets-all ws first (l .start);
+        all = λ b h. rw left (rw add-zero at h);
         rows = t .rows;
         below = below-refl first ds₀ gs₀ os₀;
         limit = omega arith;
-        advance-room = t .advance-room;
-        gap-room = t .gap-room;
-        offset-room = t .offset-room;
+        rooms = t .rooms;
       }
+    where
+      left : rowsOf (from ws first) ≡ rowsLeft ws first end 0 0
+      left =
+          let h : first < size ws = omega arith in
+          rw (unit-step ws first h .rest, t .unit .ends, offsets-all ws first h)
 
   -- the bounds of the gap after it
-  gap-limits : GapBounds (outer (unitAt ws first) (from ws end) 0 .gap)
+  gap-limits : GapBounds (outer u (from ws end) 0 .gap)
   gap-limits =
-      let l = unit-limits in
       let f = t .unit .fine in
-      let s = unit-step ws first (l .start) in
+      let h : first < size ws = omega arith in
       elim (ordered end (size ws)) [
-        | inl h ↦
-            let v = unit-step ws end h in
-            rw (v .rest, s .first, v .first)
-            (gap-bounds _ _ (side-limits ws first f first (omega arith) (l .start))
-            (side-limits ws first f end (omega arith) h))
-        | inr h ↦
-            rw (from-end ws end h)
-            (record {
-              packs = record { gives = omega arith; twice = refl };
-              at-most =
-                  record {
-                    space = omega arith;
-                    shrink₁ = omega arith;
-                    shrink₂ = omega arith;
-                    stretch₂ = omega arith;
-                  };
-            })
+        | inl l ↦
+            let v = unit-step ws end l in
+            rw (v .rest, unit-step ws first h .first, v .first)
+            (gap-bounds _ _ (side-limits ws first f first (omega arith) h) (side-limits ws first f end (omega arith) l))
+        | inr l ↦
+            rw (from-end ws end l)
+            (omega arith)
       ]
 
   pub solid-limit : {ds gs os : List ℕ} {solid k : ℕ} → UnitFilling ws first end ds₀ gs₀ os₀ ds gs os solid k →
       {q : Rec} → q ≡ recAt ws (first + k) → solid + q .advance ≤ 128000
   solid-limit {k = k} f w =
-      let l = unit-limits in
-      let i = f .inside in
-      let b = record-limits ws first (t .unit .fine) (first + k) (omega arith) (omega (arith, t .unit .within)) in
-      rw w (omega (arith, f .limit))
+      let b = record-limits ws first (t .unit .fine) (first + k) (omega arith) (omega arith) in
+      rw w (omega arith)
 
   -- r is the unit's first record, as the program holds it
   module _ {r : Rec} (e : r ≡ recAt ws first) where
-    pub advance-is : groupAdvance base (r .ruby) (r .size) ≡ advance (unitAt ws first)
+    advance-is : groupAdvance base (r .ruby) (r .size) ≡ advance u
     unfolding advance
     advance-is =
-        ap (λ p. groupAdvance base (p .ruby) (p .size)) (e ∙ sym (unit-step ws first (unit-limits .start) .first))
-        ∙ ap (λ x. groupAdvance x (unitAt ws first .first .ruby) (unitAt ws first .first .size)) (t .unit .base-is)
+        ap (λ p. groupAdvance base (p .ruby) (p .size)) (e ∙ sym (unit-step ws first (omega arith) .first))
+        ∙ ap (λ x. groupAdvance x (u .first .ruby) (u .first .size)) (t .unit .base-is)
 
-    pub advance-limit : groupAdvance base (r .ruby) (r .size) ≤ 128000
-    advance-limit =
-        rw advance-is (unit-advance ws first (t .unit .fine) (unit-limits .start) (t .unit .few-records))
+    pub advance-limit : {w : ℕ} → w ≡ groupAdvance base (r .ruby) (r .size) → w ≤ 128000
+    advance-limit v = rw (v, advance-is) (unit-advance (t .unit))
 
     module _ {ds gs os : List ℕ} {solid k : ℕ} (f : UnitFilling ws first end ds₀ gs₀ os₀ ds gs os solid k) where
       pub offset-bounds : OffsetBounds (r .ruby) (r .size) (end - first) k solid
       offset-bounds =
-          let l = unit-limits in
-          let i = f .inside in
-          let b = record-limits ws first (t .unit .fine) first (omega arith) (l .start) in
+          let b = record-limits ws first (t .unit .fine) first (omega arith) (omega arith) in
           record {
             characters = rw e (b .ruby);
             size = rw e (b .size);
-            items = l .few;
+            items = omega arith;
             item = omega arith;
-            offset = omega (arith, f .limit);
+            offset = omega arith;
           }
 
       module _ {o : ℕ} (g : o ≡ baseOffset base (r .ruby) (r .size) (end - first) k solid) where
         offset-is : o ≡ offsetAt ws first k solid
-        offset-is = g ∙ rw (t .unit .base-is, unit-limits .records, e)
+        offset-is = let n : end - first ≡ count u = omega arith in g ∙ rw (t .unit .base-is, n, e)
 
         offset-limit : o ≤ 256000
         unfolding baseOffset
@@ -196,80 +161,61 @@ module _ {ws : List ℕ} {first end base gap tied : ℕ} {ds₀ gs₀ os₀ : Li
             omega (arith, shift-small d (end - first) k (b .item))
 
         -- the row of record k is stored, which is not the last
-        pub fill-more : {ds' gs' os' : List ℕ} {q : Rec} → k + 1 < end - first →
-            ds' ≡ set ds (first + k) 1 → gs' ≡ set gs (first + k) 0 → os' ≡ set os (first + k) o →
-            q ≡ recAt ws (first + k) → UnitFilling ws first end ds₀ gs₀ os₀ ds' gs' os' (solid + q .advance) (k + 1)
-        fill-more {q = q} h a b c w =
-            let l = unit-limits in
-            let i = f .inside in
-            let x =
-            record-limits ws first (t .unit .fine) (first + k) (omega arith) (omega (arith, t .unit .within)) in
-            let m : first + k + 1 ≡ first + (k + 1) = omega arith in
-            rw (a, b, c, w)
+        pub fill-more : {ds′ gs′ os′ : List ℕ} {q : Rec} → k + 1 < end - first →
+            Stored (first + k) 1 0 o ds gs os ds′ gs′ os′ → q ≡ recAt ws (first + k) →
+            UnitFilling ws first end ds₀ gs₀ os₀ ds′ gs′ os′ (solid + q .advance) (k + 1)
+        unfolding unitRows
+        fill-more {q = q} h s w =
+            let b = record-limits ws first (t .unit .fine) (first + k) (omega arith) (omega arith) in
+            let m : first + (k + 1) ≡ first + k + 1 = omega arith in
+            rw w
             (record {
               inside = omega arith;
-              done = f .done ++ o ∷ [];
-              written =
-                  rw m at
-                  (written-last (written-kept 1 0 o (f .written))
-                  (row-stored ds gs os (first + k) 1 0 o (inner-is offset-limit)
-                  (omega (arith, f .advance-room)) (omega (arith, f .gap-room)) (omega (arith, f .offset-room))));
-              left = rw (append-assoc, offset-is) (rw (offsets-more ws first k solid (omega arith)) at (f .left));
-              rows = held-kept ds gs os (first + k) 1 0 o (omega arith) (f .rows);
-              below = below-set 1 0 o (f .below) (omega arith);
-              limit = omega (arith, f .limit);
-              advance-room = simp length-set (f .advance-room);
-              gap-room = simp length-set (f .gap-room);
-              offset-room = simp length-set (f .offset-room);
+              all =
+                  λ c h.
+                  f .all
+                  (below-trans {n = first + k} (below-stored s (omega arith)) (below-less c (omega arith)) (omega arith))
+                  (rw left (held-more (row-below c (omega arith) (row-stored s (inner-is offset-limit) (f .rooms)
+                  (omega arith))) (λ z. refl) (rw m at h)));
+              rows = held-kept s (omega arith) (f .rows);
+              below = below-trans (f .below) (below-stored s (omega arith)) (omega arith);
+              limit = omega arith;
+              rooms = rooms-kept s (f .rooms);
             })
+          where
+            left : rowsLeft ws first end k solid
+                ≡ inner o ∷ rowsLeft ws first end (k + 1) (solid + recAt ws (first + k) .advance)
+            left =
+                rw (
+                  offsets-more ws first k solid (omega arith),
+                  offsets-more ws first (k + 1) (solid + recAt ws (first + k) .advance) (omega arith),
+                  offset-is,
+                )
 
         -- the last row is stored
-        module _ (h : end - first ≤ k + 1) where
-          abbrev word : ℕ
-          word = 2 * groupAdvance base (r .ruby) (r .size) + tied
-
-          offsets-done : baseOffsets (unitAt ws first) ≡ f .done ++ o ∷ []
-          offsets-done =
-              let l = unit-limits in
-              let i = f .inside in
-              let p : k < count (unitAt ws first) = omega arith in
-              let q : count (unitAt ws first) ≤ k + 1 = omega arith in
-              sym (f .left) ∙ rw (offsets-more, offsets-end, offset-is)
-
-          last-row : RowIs (outer (unitAt ws first) (from ws end) o) word gap o
+        module _ (h : end - first ≤ k + 1) {w : ℕ} (v : w ≡ groupAdvance base (r .ruby) (r .size)) where
+          last-row : RowIs (outer u (from ws end) o) (2 * w + tied) gap o
           last-row =
-              rw advance-is
-              (outer-is (unitAt ws first) (from ws end) (t .gap-is) (t .tied-is)
-              (unit-advance ws first (t .unit .fine) (unit-limits .start) (t .unit .few-records)) gap-limits
+              rw (v, advance-is)
+              (outer-is u (from ws end) (t .joint .gap-is) (t .joint .tied-is) (unit-advance (t .unit)) gap-limits
               offset-limit)
 
-          rows-done : let e = first + k in Rowed ws (set ds e word) (set gs e gap) (set os e o) first
-          unfolding rowsOf
-          rows-done =
-              let l = unit-limits in
-              let i = f .inside in
-              let u = unitAt ws first in
-              let n : first + k + 1 ≡ end = omega arith in
-              rw (t .unit .unit, offsets-done)
-              (unit-held u (from ws end) o (written-kept word gap o (f .written))
-              (held-more
-              (row-stored ds gs os (first + k) word gap o last-row (omega (arith, f .advance-room))
-              (omega (arith, f .gap-room)) (omega (arith, f .offset-room)))
-              (last-gap u (from ws end) o)
-              (rw n (held-kept ds gs os (first + k) word gap o (omega arith) (f .rows)))))
+          last-left : rowsLeft ws first end k solid ≡ outer u (from ws end) o ∷ rowsOf (from ws end)
+          unfolding unitRows
+          last-left =
+              rw (offsets-more ws first k solid (omega arith), offsets-end ws first (k + 1) _ (omega arith), offset-is)
 
-          pub fill-done : {ds' gs' os' : List ℕ} {w : ℕ} → w ≡ groupAdvance base (r .ruby) (r .size) →
-              ds' ≡ set ds (end - 1) (2 * w + tied) → gs' ≡ set gs (end - 1) gap → os' ≡ set os (end - 1) o →
-              RowsFilled ws first ds₀ gs₀ os₀ ds' gs' os'
-          fill-done w a b c =
-              let l = unit-limits in
-              let i = f .inside in
+          pub fill-done : {ds′ gs′ os′ : List ℕ} → Stored (end - 1) (2 * w + tied) gap o ds gs os ds′ gs′ os′ →
+              RowsFilled ws first ds₀ gs₀ os₀ ds′ gs′ os′
+          fill-done s =
               let n : end - 1 ≡ first + k = omega arith in
-              rw (a, b, c, n, w)
-              (record {
-                rows = rows-done;
-                below = below-set word gap o (f .below) (omega arith);
-                advance-room = simp length-set (f .advance-room);
-                gap-room = simp length-set (f .gap-room);
-                offset-room = simp length-set (f .offset-room);
-              })
+              let m : end - 1 + 1 ≡ end = omega arith in
+              record {
+                rows =
+                    f .all (below-stored s (omega arith))
+                    (rw (last-left, ← n)
+                    (held-more (row-stored s last-row (f .rooms) (omega arith)) (last-gap u (from ws end) o)
+                    (rw m (held-kept s (omega arith) (f .rows)))));
+                below = below-trans (f .below) (below-stored s (omega arith)) (omega arith);
+                rooms = rooms-kept s (f .rooms);
+              }

@@ -29,6 +29,9 @@ module _ (ws : List ℕ) (i : ℕ) (h : i < size ws) where
       let f : suc i ≡ i + 1 = omega arith in
       rw (e, records, f)
 
+  pub records-at : drop i (paragraph ws) ≡ recAt ws i ∷ records ws (i + 1) (size ws - (i + 1))
+  records-at = records-left ws i (omega arith) ∙ records-from
+
 -- units ----------------------------------------------------------------------------------------------------------
 
 pub from-end : (ws : List ℕ) (i : ℕ) → size ws ≤ i → from ws i ≡ []
@@ -36,20 +39,23 @@ unfolding from records units cut
 from-end ws i h = let e : size ws - i ≡ 0 = omega arith in rw e
 
 -- with one record more at the front
-pub from-tie : (ws : List ℕ) (i : ℕ) → i < size ws → from ws i ≡ tie sameGroup (recAt ws i) (from ws (i + 1))
+from-tie : (ws : List ℕ) (i : ℕ) → i < size ws → from ws i ≡ tie sameGroup (recAt ws i) (from ws (i + 1))
 unfolding from units cut
 from-tie ws i h = rw (records-from ws i h)
 
--- the first unit of some units, with the records after it
-record Headed (ws : List ℕ) (i : ℕ) (us : List TextUnit) : Type 0 where
-  unit : TextUnit
-  first : unit .first ≡ recAt ws i
-  rest : us ≡ unit ∷ from ws (i + count unit)
-  within : i + count unit ≤ size ws
+-- the unit that starts with record i, and what follows it
+pub record UnitStep (ws : List ℕ) (i : ℕ) : Type 0 where
+  pub first : unitAt ws i .first ≡ recAt ws i
+  pub rest : from ws i ≡ unitAt ws i ∷ from ws (nextAt ws i)
+  pub within : nextAt ws i ≤ size ws
 
-headed : (ws : List ℕ) (i : ℕ) → i < size ws → Headed ws i (from ws i)
+unit-is : (ws : List ℕ) (i : ℕ) → unitAt ws i ≡ headOr (alone (recAt ws i)) (from ws i)
+unfolding unitAt
+unit-is ws i = refl
+
+pub unit-step : (ws : List ℕ) (i : ℕ) → i < size ws → UnitStep ws i
 unfolding from units joined
-headed ws i h =
+unit-step ws i h =
     let f = cut-first sameGroup (recAt ws i) (records ws (i + 1) (size ws - (i + 1))) in
     let u = f .0 in
     let us = f .1 in
@@ -62,35 +68,19 @@ headed ws i h =
     sym (drop-at (whole u) (joined us) (count u) refl) ∙ ap (λ rs. drop (count u) rs) j
     ∙ drop-records ws i (size ws - i) (count u) (omega arith) in
     let m : size ws - i - count u ≡ size ws - (i + count u) = omega arith in
+    let v : unitAt ws i ≡ u = rw (unit-is, e) in
     record {
-      unit = u;
-      first = f .3;
+      first = rw v (f .3);
       rest =
-          e ∙ ap (λ t. u ∷ t) (cut-tail sameGroup (records ws i (size ws - i)) u us e
-          ∙ ap (λ rs. cut sameGroup rs) (rw m at d));
-      within = omega arith;
+          rw v
+          (e ∙ ap (λ t. u ∷ t) (cut-tail sameGroup (records ws i (size ws - i)) u us e
+          ∙ ap (λ rs. cut sameGroup rs) (rw m at d)));
+      within = rw v (omega arith);
     }
 
--- the unit that starts with record i, and what follows it
-pub record UnitStep (ws : List ℕ) (i : ℕ) : Type 0 where
-  pub first : unitAt ws i .first ≡ recAt ws i
-  pub rest : from ws i ≡ unitAt ws i ∷ from ws (nextAt ws i)
-  pub within : nextAt ws i ≤ size ws
-
-pub unit-step : (ws : List ℕ) (i : ℕ) → i < size ws → UnitStep ws i
-unfolding unitAt
-unit-step ws i h =
-    let d = headed ws i h in
-    let e : headOr (alone (recAt ws i)) (from ws i) ≡ d .unit = rw (d .rest) in
-    record { first = rw e (d .first); rest = rw e (d .rest); within = rw e (d .within) }
-
-pub tie-head : {A : Type 0} (t : A → A → Bool) (a : A) (d l : Run A) (ls : List (Run A)) →
+tie-head : {A : Type 0} (t : A → A → Bool) (a : A) (d l : Run A) (ls : List (Run A)) →
     headOr d (tie t a (l ∷ ls)) ≡ cond (t a (l .first)) (then (alone a) l) (alone a)
 tie-head t a d l ls = elim (tested (t a (l .first))) [ inl e ↦ rw e | inr e ↦ rw e ]
-
-unit-is : (ws : List ℕ) (i : ℕ) → unitAt ws i ≡ headOr (alone (recAt ws i)) (from ws i)
-unfolding unitAt
-unit-is ws i = refl
 
 -- a unit from record i on, by the one from the next record on
 pub unit-last : (ws : List ℕ) (i : ℕ) → i + 1 ≡ size ws → unitAt ws i ≡ alone (recAt ws i)
@@ -101,11 +91,7 @@ pub unit-more : (ws : List ℕ) (i : ℕ) → i + 1 < size ws →
     (alone (recAt ws i))
 unit-more ws i h =
     let s = unit-step ws (i + 1) h in
-    unit-is ws i
-    ∙ ap (headOr (alone (recAt ws i))) (from-tie ws i (omega arith) ∙ ap (tie sameGroup (recAt ws i)) (s .rest))
-    ∙ tie-head sameGroup (recAt ws i) _ (unitAt ws (i + 1)) _
-    ∙ ap (λ r. cond (sameGroup (recAt ws i) r) (then (alone (recAt ws i)) (unitAt ws (i + 1))) (alone (recAt ws i)))
-    (s .first)
+    rw (unit-is ws i, from-tie ws i (omega arith), s .rest, tie-head, s .first)
 
 -- units after others, and runs ---------------------------------------------------------------------------------------
 

@@ -81,11 +81,10 @@ floors e c s =
 
 -- where the unit after some gaps starts: after advances that end at `solid` where they stand solid, the gaps' spaces,
 -- and the floors up to them
-abbrev pub placeAfter : ℕ → ℕ → Amounts → ℕ
-placeAfter solid space f = solid + (space - f .shrink₁ - f .shrink₂) + f .stretch₁ + f .stretch₂
-
-abbrev pub placeBy : Amounts → Gap → ℕ → Gap → ℕ
-placeBy e c solid s = placeAfter solid (s .space) (floors e c s)
+unfoldable pub placeBy : Amounts → Gap → ℕ → Gap → ℕ
+placeBy e c solid s =
+    let f = floors e c s in
+    solid + (s .space - f .shrink₁ - f .shrink₂) + f .stretch₁ + f .stretch₂
 
 -- a place that can be told from the rates: after units that end at `solid` and gaps that add up to s, of those that
 -- add up to c
@@ -97,18 +96,14 @@ pub record Placeable (r : Rates) (e : Amounts) (c : Gap) (solid : ℕ) (s : Gap)
   pub solid-limit : solid ≤ 40000000
   pub space-limit : s .space ≤ 1024000
 
--- the line of the records from i up to j, with what the tables hold from its first record on
-pub record LineBetween (ws ds gs os : List ℕ) (i j : ℕ) : Type 0 where
-  pub some : i < j
+-- the line of the records from i up to j, which starts at x: with what the tables hold from its first record on, and
+-- amounts e that its gaps c can take
+pub record LineToPlace (ws ds gs os places : List ℕ) (i j x : ℕ) (r : Rates) (e : Amounts) (c : Gap) : Type 0 where
   pub within : j ≤ size ws
   pub few : size ws ≤ 256
   pub ends : i + counts (whole (lineAt ws i j)) ≡ j
   pub joins-up : whole (lineAt ws i j) ++ from ws j ≡ from ws i
   pub rows : Rowed ws ds gs os i
-
--- a line that starts at x, with amounts e that its gaps c can take
-pub record LineToPlace (ws ds gs os places : List ℕ) (i j x : ℕ) (r : Rates) (e : Amounts) (c : Gap) : Type 0 where
-  pub line : LineBetween ws ds gs os i j
   pub gaps : c ≡ gapsOf (lineAt ws i j)
   pub bounds : RateBounds e c
   pub rates : RatesOf r e c

@@ -6,6 +6,7 @@
 --   unit before     the unit that ends before record i, or i where 8, 12 or 9 applies to one of its records
 --   column          a class's place among the eighteen, of the unit that starts with a record
 --   joint           what stands after a unit: the gap and the tie of its last row
+--   rooms           tables with room for 256 rows
 --   below           tables that have the same rows below a row
 --   filled          the rows are filled from a record on, and those before it are as they were
 --   scanned         the rows are filled down to the unit that record `stop` is in; or 8, 12 or 9 applies to a record
@@ -13,20 +14,19 @@
 --
 -- Assumes nothing.
 use mathlib.Core.Path.{_≡_}
-use Prim.Native.Nat.{ℕ, _+_, _-_, _≤_, _<_}
+use Prim.Native.Nat.{ℕ, _+_, _*_, _-_, _≤_, _<_}
 use mathlib.Core.Bool.{Bool, true, false}
-use mathlib.Core.List.{List, _∷_}
+use mathlib.Core.List.{List}
 use mathlib.Core.Option.{none}
 use lib.ListN.{length, take, getD}
 use Rattle.rules.specs.Records.{Rec, recAt, records, rowOf, recOk}
 use Rattle.rules.specs.Listed.{isListed}
-use Rattle.rules.specs.Groups.{sameGroup, groupFault, count, baseTotal}
+use Rattle.rules.specs.Groups.{sameGroup, groupFault, baseTotal}
 use Rattle.rules.specs.Sides.{sideBy}
 use Rattle.rules.specs.Values.{SideOk}
 use Rattle.rules.specs.Packed.{unpacked}
 use Rattle.rules.specs.Meanings.{All}
-use Rattle.rules.specs.declared.gaps.Joint.{Joint}
-use Rattle.compose.specs.Paragraph.{size, paragraph, from, unitAt, Checked}
+use Rattle.compose.specs.Paragraph.{size, paragraph, from, unitAt, nextAt, Checked}
 use Rattle.compose.specs.Rows.{outer, bit, Rowed}
 use Rattle.compose.specs.Composed.{Kept}
 use Rattle.compose.specs.declared.units.UnitSums.{UnitSums}
@@ -48,17 +48,15 @@ pub record UnitOf (ws : List ℕ) (first end base : ℕ) : Type 0 where
   pub order : first < end
   pub within : end ≤ size ws
   pub few : size ws ≤ 256
-  pub unit : from ws first ≡ unitAt ws first ∷ from ws end
-  pub ends : first + count (unitAt ws first) ≡ end
-  pub few-records : count (unitAt ws first) ≤ 16
+  pub ends : nextAt ws first ≡ end
+  pub few-records : end ≤ first + 16
   pub base-is : base ≡ baseTotal (unitAt ws first)
+  pub light : base ≤ 8000 * (end - first)
   pub fine : All Fine (records ws first (size ws - first))
 
 pub record UnitBefore (ws : List ℕ) (start i : ℕ) (r : UnitSums) : Type 0 where
-  pub low : r .first ≤ i
   pub ill : r .first ≡ i → Checked ws → ⊥
-  pub scanning : (r .first ≡ i → ⊥) → Scanning ws start (r .first)
-  pub unit : (r .first ≡ i → ⊥) → UnitOf ws (r .first) i (r .base)
+  pub unit : (r .first ≡ i → ⊥) → Scanning ws start (r .first) × UnitOf ws (r .first) i (r .base)
 
 -- the column of the unit that starts with record i, if there is one
 abbrev pub ColumnFrom : List ℕ → ℕ → ℕ → Type 0
@@ -73,31 +71,31 @@ pub record JointDue (ws : List ℕ) (first i row column : ℕ) : Type 0 where
   pub column-is : ColumnFrom ws i column
 
 -- the gap and the tie of the last row of the unit that starts with record `first`, before record i
-pub record JointAfter (ws : List ℕ) (first i : ℕ) (j : Joint) : Type 0 where
-  pub gap : unpacked (j .gap) ≡ outer (unitAt ws first) (from ws i) 0 .gap
-  pub tied : j .tied ≡ bit (outer (unitAt ws first) (from ws i) 0 .tied)
+pub record JointAfter (ws : List ℕ) (first i gap tied : ℕ) : Type 0 where
+  pub gap-is : unpacked gap ≡ outer (unitAt ws first) (from ws i) 0 .gap
+  pub tied-is : tied ≡ bit (outer (unitAt ws first) (from ws i) 0 .tied)
+  pub small : tied ≤ 1
 
 -- the rows from record i on are filled
 pub record RowsFrom (ws : List ℕ) (start i : ℕ) (ds gs os : List ℕ) : Type 0 where
   pub scanning : Scanning ws start i
   pub rows : Rowed ws ds gs os i
 
--- with room for all others
+-- tables with room for the rows of all records
+pub record Rooms (ds gs os : List ℕ) : Type 0 where
+  pub advances : length ds ≡ 256
+  pub gaps : length gs ≡ 256
+  pub offsets : length os ≡ 256
+
 pub record RowsScanned (ws : List ℕ) (start i : ℕ) (ds gs os : List ℕ) : Type 0 where
-  pub scanning : Scanning ws start i
-  pub rows : Rowed ws ds gs os i
-  pub advance-room : length ds ≡ 256
-  pub gap-room : length gs ≡ 256
-  pub offset-room : length os ≡ 256
+  pub filled : RowsFrom ws start i ds gs os
+  pub rooms : Rooms ds gs os
 
 pub record UnitToFill (ws : List ℕ) (first end base gap tied : ℕ) (ds gs os : List ℕ) : Type 0 where
   pub unit : UnitOf ws first end base
+  pub joint : JointAfter ws first end gap tied
   pub rows : Rowed ws ds gs os end
-  pub gap-is : unpacked gap ≡ outer (unitAt ws first) (from ws end) 0 .gap
-  pub tied-is : tied ≡ bit (outer (unitAt ws first) (from ws end) 0 .tied)
-  pub advance-room : length ds ≡ 256
-  pub gap-room : length gs ≡ 256
-  pub offset-room : length os ≡ 256
+  pub rooms : Rooms ds gs os
 
 -- tables that have the same rows below row n
 pub record Below (n : ℕ) (ds₀ gs₀ os₀ ds gs os : List ℕ) : Type 0 where
@@ -109,9 +107,7 @@ pub record Below (n : ℕ) (ds₀ gs₀ os₀ ds gs os : List ℕ) : Type 0 wher
 pub record RowsFilled (ws : List ℕ) (first : ℕ) (ds₀ gs₀ os₀ ds gs os : List ℕ) : Type 0 where
   pub rows : Rowed ws ds gs os first
   pub below : Below first ds₀ gs₀ os₀ ds gs os
-  pub advance-room : length ds ≡ 256
-  pub gap-room : length gs ≡ 256
-  pub offset-room : length os ≡ 256
+  pub rooms : Rooms ds gs os
 
 -- the rows from record `first` on, which is not past record i, and those before it as they were
 pub record Filled (ws : List ℕ) (start i : ℕ) (ds₀ gs₀ os₀ ds gs os : List ℕ) (first column : ℕ) : Type 0 where

@@ -42,11 +42,11 @@ pub(crate) fn longest_line(
     let mut solid = x;
     let mut total: u64 = 0;
     let mut k = i;
-    while k < n {
+    'search: while k < n {
         let word = advances[k];
         solid += word / 2;
         if m < solid + least_of(total) {
-            return line;
+            break 'search;
         }
         if word % 2 == 0 {
             line = LineSums {

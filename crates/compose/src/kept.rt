@@ -1,11 +1,10 @@
 // The rows that an edit keeps: those of the records after it, moved.
 ghost use mathlib.Core.Path.{_≡_};
-ghost use Prim.Native.Nat.{_≤_};
+ghost use Prim.Native.Nat.{_+_, _≤_, _<_};
 ghost use Rattle.compose.specs.Paragraph.{size};
-ghost use Rattle.compose.specs.Kept.{UnitFrom, ToMove, RowsMoved, ToKeep, KeptFrom};
+ghost use Rattle.compose.specs.Kept.{UnitFrom, Tables, InTurn, wordCopied, RowsMoved, ToKeep, KeptFrom};
 use crate::checks::record_at;
 use crate::checks::same_group;
-use crate::rows::put_row;
 
 // The first record from record `a` on with which a unit starts, whatever stands before record `a`.
 fn unit_from(ws: &[u32], a: usize) -> usize
@@ -13,18 +12,11 @@ fn unit_from(ws: &[u32], a: usize) -> usize
     ensures { λ i. ⌜ UnitFrom (now (ws .entry)) a i ⌝ }
 {
     let n = ws.len() / 6;
-    if n <= a {
-        return n;
-    }
-    let first = record_at(ws, a);
-    let group = first.group;
-    if group == 0 {
-        return a;
-    }
-    let mut i = a + 1;
+    let mut i = a;
     while i < n {
+        let first = record_at(ws, a);
         let r = record_at(ws, i);
-        if !same_group(group, r.group) {
+        if !same_group(first.group, r.group) {
             return i;
         }
         i += 1;
@@ -32,52 +24,28 @@ fn unit_from(ws: &[u32], a: usize) -> usize
     n
 }
 
-// Moves `count` rows from row `start` on to row `to`, upwards: `to` is not past `start`.
-fn move_up(
-    start: usize,
-    to: usize,
-    count: usize,
-    advances: &mut [u32],
-    gaps: &mut [u64],
-    offsets: &mut [u32],
-)
-    requires { ⌜ ToMove start to count (now advances) (now gaps) (now offsets) × (to ≤ start) ⌝ }
-    ensures { λ _. ⌜ RowsMoved (now (advances .entry)) (now (gaps .entry)) (now (offsets .entry)) start to count
-        (now (advances .exit)) (now (gaps .exit)) (now (offsets .exit)) ⌝ }
+// Which of `count` rows moves in turn `k`: where they move down the last comes first, and where they move up the first
+// does, so that no row is written over that is still to be moved.
+fn in_turn(start: usize, to: usize, count: usize, k: usize) -> usize
+    requires { ⌜ k < count ⌝ }
+    ensures { λ r. ⌜ InTurn start to count k r ⌝ }
 {
-    let mut k: usize = 0;
-    while k < count {
-        let i = start + k;
-        let advance = advances[i];
-        let gap = gaps[i];
-        let offset = offsets[i];
-        put_row(advances, gaps, offsets, to + k, advance, gap, offset);
-        k += 1;
+    if start < to {
+        return count - 1 - k;
     }
+    k
 }
 
-// The same downwards, from the last row on: `start` is not past `to`.
-fn move_down(
-    start: usize,
-    to: usize,
-    count: usize,
-    advances: &mut [u32],
-    gaps: &mut [u64],
-    offsets: &mut [u32],
-)
-    requires { ⌜ ToMove start to count (now advances) (now gaps) (now offsets) × (start ≤ to) ⌝ }
-    ensures { λ _. ⌜ RowsMoved (now (advances .entry)) (now (gaps .entry)) (now (offsets .entry)) start to count
-        (now (advances .exit)) (now (gaps .exit)) (now (offsets .exit)) ⌝ }
+// Copies row `from` to row `to`.
+fn copy_row(advances: &mut [u32], gaps: &mut [u64], offsets: &mut [u32], from: usize, to: usize)
+    requires { ⌜ Tables (now advances) (now gaps) (now offsets) × (from < 256) × (to < 256) ⌝ }
+    ensures { λ _. ⌜ now (advances .exit) ≡ wordCopied from to (now (advances .entry)) ⌝ }
+    ensures { λ _. ⌜ now (gaps .exit) ≡ wordCopied from to (now (gaps .entry)) ⌝ }
+    ensures { λ _. ⌜ now (offsets .exit) ≡ wordCopied from to (now (offsets .entry)) ⌝ }
 {
-    let mut k = count;
-    while 0 < k {
-        k -= 1;
-        let i = start + k;
-        let advance = advances[i];
-        let gap = gaps[i];
-        let offset = offsets[i];
-        put_row(advances, gaps, offsets, to + k, advance, gap, offset);
-    }
+    advances[to] = advances[from];
+    gaps[to] = gaps[from];
+    offsets[to] = offsets[from];
 }
 
 // Moves `count` rows from row `start` on to row `to`.
@@ -89,17 +57,19 @@ fn move_rows(
     gaps: &mut [u64],
     offsets: &mut [u32],
 )
-    requires { ⌜ ToMove start to count (now advances) (now gaps) (now offsets) ⌝ }
+    requires { ⌜ Tables (now advances) (now gaps) (now offsets) × (start + count ≤ 256) × (to + count ≤ 256) ⌝ }
     ensures { λ _. ⌜ RowsMoved (now (advances .entry)) (now (gaps .entry)) (now (offsets .entry)) start to count
         (now (advances .exit)) (now (gaps .exit)) (now (offsets .exit)) ⌝ }
 {
-    if to < start {
-        move_up(start, to, count, advances, gaps, offsets);
-    } else {
-        // an edit that puts as many records in as it takes out leaves them where they are
-        if start < to {
-            move_down(start, to, count, advances, gaps, offsets);
-        }
+    // an edit that puts as many records in as it takes out leaves them where they are
+    if start == to {
+        return;
+    }
+    let mut k: usize = 0;
+    while k < count {
+        let i = in_turn(start, to, count, k);
+        copy_row(advances, gaps, offsets, start + i, to + i);
+        k += 1;
     }
 }
 

@@ -103,7 +103,7 @@ pub(crate) fn joint_after(
 ) -> Joint
     requires { ⌜ JointDue (now ws) first i row column ⌝ }
     requires { ⌜ (now spacing ≡ spacingTable) × (now words ≡ entryWords) ⌝ }
-    ensures { λ j. ⌜ JointAfter (now (ws .entry)) first i j ⌝ }
+    ensures { λ j. ⌜ JointAfter (now (ws .entry)) first i (j .gap) (j .tied) ⌝ }
 {
     if i < ws.len() / 6 {
         joint_between(

@@ -1,6 +1,5 @@
 -- `compose::adjustment::line_rates` meets its contract. Assumes nothing.
 use mathlib.Core.Path.{sym}
-use native.Mathlib.Omega.{arith}
 use borrow.Author.Needs.{needs}
 use Rattle.rules.proofs.Facts.{true-false}
 use Rattle.compose.proofs.adjustment.line_rates.Statement.{statement}
@@ -9,30 +8,11 @@ use Rattle.compose.proofs.adjustment.line_rates.Tie as tie
 returns : tie.Need-returns
 returns c =
     let t = c .before .before in
-    record {
-      shrinking =
-          λ z.
-          record {
-            first = c .before .rate .ensures;
-            second = c .rate2 .ensures;
-            unstretched = t .before .before .pre .one-way (t .if1 .taken);
-          };
-      stretching = λ z. absurd (true-false z);
-    }
+    let u = t .before .before .pre .one-way (t .if1 .taken) in
+    record { shrinking = λ z. search; stretching = λ z. absurd (true-false z) }
 
 returns-2 : tie.Need-returns-2
-returns-2 c =
-    let l = c .before .before .if1 .left in
-    record {
-      shrinking = λ z. absurd (true-false (sym z));
-      stretching =
-          λ z.
-          record {
-            first = c .before .rate3 .ensures;
-            second = c .rate4 .ensures;
-            unshrunk = omega (arith, l);
-          };
-    }
+returns-2 c = record { shrinking = λ z. absurd (true-false (sym z)); stretching = λ z. search needs }
 
 pub line-rates-spec : {M : Type 1} → statement M
 line-rates-spec =

@@ -1,6 +1,5 @@
 -- `compose::breaking::break_lines` meets its contract: the lines written, and those of the records left, are the
 -- paragraph's. Assumes nothing.
-use mathlib.Core.Path.{refl}
 use Prim.Native.Nat.{_-_}
 use native.Mathlib.Omega.{arith}
 use borrow.Author.Needs.{needs}
@@ -16,10 +15,6 @@ Inv-loop ws advances gaps offsets m x n out₀ lines₀ i₀ start₀ out lines 
 abbrev μ-loop : tie.MeasureT-loop
 μ-loop ws advances gaps offsets m x n out₀ lines₀ i₀ start₀ out lines i start = n - i
 
--- the turn in which a line is looked for
-abbrev turn : tie.Else1 Inv-loop μ-loop → tie.In-loop Inv-loop μ-loop
-turn c = c .before .before .before
-
 loop-holds : tie.Need-loop-holds Inv-loop μ-loop
 loop-holds c = due-start (c .before .before .pre) (c .out .given .0 .1)
 
@@ -29,21 +24,20 @@ longest-line-requires c κs = left-line (c .before .loop .inv .left) (c .loop-te
 returns : tie.Need-returns Inv-loop μ-loop
 returns c =
     let k = c .before .before in
-    due-stop (k .before .before .loop .inv) (k .longest-line .ensures .none-fits (c .if1 .taken)) refl
+    due-stop (k .before .before .loop .inv) (k .longest-line .ensures .none-fits (c .if1 .taken))
 
 loop-less : tie.Need-loop-less Inv-loop μ-loop
 loop-less c =
-    let k = c .before .before in
-    let t = k .longest-line .ensures .taken (c .if1 .left) in
-    omega (arith, t .some, t .within, turn c .loop-test .taken)
+    let t = c .before .before .longest-line .ensures .taken (c .if1 .left) in
+    omega arith
 
 loop-again : tie.Need-loop-again Inv-loop μ-loop
 loop-again c =
-    due-more (turn c .before .loop .inv) (turn c .loop-test .taken)
-    (c .before .before .longest-line .ensures .taken (c .if1 .left))
+    let k = c .before .before in
+    due-more (k .before .before .loop .inv) (k .longest-line .ensures .taken (c .if1 .left))
 
 returns-2 : tie.Need-returns-2 Inv-loop μ-loop
-returns-2 c = due-end (c .before .loop .inv) (c .loop-test .left) refl refl
+returns-2 c = due-end (c .before .loop .inv) (c .loop-test .left)
 
 pub break-lines-spec : {M : Type 1} → statement M
 break-lines-spec =

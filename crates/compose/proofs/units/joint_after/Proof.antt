@@ -21,17 +21,12 @@ joint-between-requires c κs =
       ),
     )
 
-returns : tie.Need-returns
-returns c =
-    let b = c .before in
-    let t = b .before .before in
-    joint-found _ _ _ (t .before .before .pre .0 .inside) (t .if1 .taken) (b .before .side-at .ensures) (b .side-at2 .ensures)
-    (c .joint-between .ensures)
-
-returns-2 : tie.Need-returns-2
-returns-2 c = joint-none _ _ _ (c .if1 .left)
-
 pub joint-after-spec : {M : Type 1} → statement M
 joint-after-spec =
     tie.close
-    (tie.spec (λ c κs. search needs) (λ c κs. search needs) joint-between-requires returns returns-2)
+    (tie.spec
+    (λ c κs. search needs)
+    (λ c κs. search needs)
+    joint-between-requires
+    (λ c. search (needs, joint-found))
+    (λ c. search (needs, joint-none)))

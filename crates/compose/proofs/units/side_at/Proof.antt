@@ -6,9 +6,6 @@ use Rattle.rules.specs.Sides.{sideBy}
 use Rattle.compose.proofs.units.side_at.Statement.{statement}
 use Rattle.compose.proofs.units.side_at.Tie as tie
 
-record-at-requires : tie.Need-record-at-requires
-record-at-requires c κs = search needs
-
 returns : tie.Need-returns
 unfolding sideBy
 returns c =
@@ -22,4 +19,4 @@ returns-2 c =
     rw (ne-eqb _ _ (c .if1 .left)) at (ap (λ r. sideBy r) (r .ensures))
 
 pub side-at-spec : {M : Type 1} → statement M
-side-at-spec = tie.close (tie.spec record-at-requires returns returns-2)
+side-at-spec = tie.close (tie.spec (λ c κs. search needs) returns returns-2)
