@@ -9,7 +9,7 @@ use mathlib.Core.Path.{_≡_}
 use Prim.Native.Nat.{ℕ, _+_, _-_, _≤_, _<_}
 use mathlib.Core.Bool.{false}
 use mathlib.Core.List.{List}
-use lib.ListN.{length, getD, set}
+use lib.ListN.{getD, set}
 use Rattle.rules.specs.Records.{Rec, recAt}
 use Rattle.rules.specs.Groups.{sameGroup}
 use Rattle.compose.specs.Paragraph.{size}
@@ -19,12 +19,6 @@ pub record UnitFrom (ws : List ℕ) (a i : ℕ) : Type 0 where
   pub low : a ≤ i
   pub within : i ≤ size ws
   pub apart : i < size ws → (p : Rec) → (a < i → p ≡ recAt ws (i - 1)) → sameGroup p (recAt ws i) ≡ false
-
--- tables of 256 rows
-pub record Tables (ds gs os : List ℕ) : Type 0 where
-  pub advances : length ds ≡ 256
-  pub gaps : length gs ≡ 256
-  pub offsets : length os ≡ 256
 
 abbrev pub wordCopied : ℕ → ℕ → List ℕ → List ℕ
 wordCopied start to us = set us to (getD us start 0)

@@ -2,7 +2,8 @@
 ghost use mathlib.Core.Path.{_≡_};
 ghost use Prim.Native.Nat.{_+_, _≤_, _<_};
 ghost use Rattle.compose.specs.Paragraph.{size};
-ghost use Rattle.compose.specs.Kept.{UnitFrom, Tables, InTurn, wordCopied, RowsMoved, ToKeep, KeptFrom};
+ghost use Rattle.compose.specs.Scan.{Rooms};
+ghost use Rattle.compose.specs.Kept.{UnitFrom, InTurn, wordCopied, RowsMoved, ToKeep, KeptFrom};
 use crate::checks::record_at;
 use crate::checks::same_group;
 
@@ -38,7 +39,7 @@ fn in_turn(start: usize, to: usize, count: usize, k: usize) -> usize
 
 // Copies row `from` to row `to`.
 fn copy_row(advances: &mut [u32], gaps: &mut [u64], offsets: &mut [u32], from: usize, to: usize)
-    requires { ⌜ Tables (now advances) (now gaps) (now offsets) × (from < 256) × (to < 256) ⌝ }
+    requires { ⌜ Rooms (now advances) (now gaps) (now offsets) × (from < 256) × (to < 256) ⌝ }
     ensures { λ _. ⌜ now (advances .exit) ≡ wordCopied from to (now (advances .entry)) ⌝ }
     ensures { λ _. ⌜ now (gaps .exit) ≡ wordCopied from to (now (gaps .entry)) ⌝ }
     ensures { λ _. ⌜ now (offsets .exit) ≡ wordCopied from to (now (offsets .entry)) ⌝ }
@@ -57,7 +58,7 @@ fn move_rows(
     gaps: &mut [u64],
     offsets: &mut [u32],
 )
-    requires { ⌜ Tables (now advances) (now gaps) (now offsets) × (start + count ≤ 256) × (to + count ≤ 256) ⌝ }
+    requires { ⌜ Rooms (now advances) (now gaps) (now offsets) × (start + count ≤ 256) × (to + count ≤ 256) ⌝ }
     ensures { λ _. ⌜ RowsMoved (now (advances .entry)) (now (gaps .entry)) (now (offsets .entry)) start to count
         (now (advances .exit)) (now (gaps .exit)) (now (offsets .exit)) ⌝ }
 {
