@@ -174,7 +174,8 @@ module _ {ws : List ℕ} {first end base gap tied : ℕ} {ds₀ gs₀ os₀ : Li
               all =
                   λ c h.
                   f .all
-                  (below-trans {n = first + k} (below-stored s (omega arith)) (below-less c (omega arith)) (omega arith))
+                  (below-trans {n = first + k} (below-stored s (omega arith)) (below-less c (omega arith))
+                  (omega arith))
                   (rw left (held-more (row-below c (omega arith) (row-stored s (inner-is offset-limit) (f .rooms)
                   (omega arith))) (λ z. refl) (rw m at h)));
               rows = held-kept s (omega arith) (f .rows);

@@ -101,9 +101,10 @@ pub fn check(
     says(0, b.lines)
 }
 
-// Composes a paragraph, of which the records before `start` are known to keep their own rules and to be listed. Its rows
-// from record `kept` on are filled already, and those before the unit that record `stop` is in. Where it is accepted its place words and line words stand at the front of
-// `places` and `lines`, and the answer is 0 and the line count.
+// Composes a paragraph, of which the records before `start` are known to keep their own rules and to be listed. Its
+// rows from record `kept` on are filled already, and those before the unit that record `stop` is in. Where it is
+// accepted its place words and line words stand at the front of `places` and `lines`, and the answer is 0 and the line
+// count.
 pub fn compose(
     ws: &[u32],
     start: usize,
