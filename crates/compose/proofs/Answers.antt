@@ -160,8 +160,8 @@ firsts-start m x i (l ∷ ls) zero h = omega arith
 firsts-start m x i (l ∷ ls) (suc j) h =
     omega (arith, firsts-start m 0 (i + counts (whole l)) ls j (omega arith))
 
-pub rows-kept : {ws ds gs os : List ℕ} {a p : ℕ} → RowsJudged ws ds gs os a p → a ≡ 0 → Kept ws ds gs os
-rows-kept r e = record { checked = r .records .accepted e; rows = r .rows e }
+pub judged-rows : {ws ds gs os : List ℕ} {a p : ℕ} → RowsJudged ws ds gs os a p → a ≡ 0 → Kept ws ds gs os
+judged-rows r e = record { checked = r .records .accepted e; rows = r .rows e }
 
 module _ {ws ds gs os : List ℕ} {a p : ℕ} (r : RowsJudged ws ds gs os a p) (m x : ℕ) where
   -- 8, 12 or 9 applies

@@ -6,6 +6,7 @@ mod kept;
 mod paragraph;
 mod places;
 mod rows;
+mod scan;
 mod units;
 
 pub use kept::keep_rows;

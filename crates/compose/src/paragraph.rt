@@ -9,7 +9,7 @@ use crate::checks::first_bad_record;
 use crate::checks::first_group_fault;
 use crate::checks::first_not_listed;
 use crate::places::compose_lines;
-use crate::rows::fill_rows;
+use crate::scan::fill_rows;
 
 // A number and a place, as document 01's table of refusals has them.
 #[repr(C)]

@@ -1,7 +1,7 @@
 -- `compose::paragraph::check` meets its contract: the records are judged, then broken into lines. Assumes nothing.
 use native.Mathlib.Omega.{arith}
 use borrow.Author.Needs.{needs}
-use Rattle.compose.proofs.Answers.{started-not, started-10, started-0, broken-few, rows-kept}
+use Rattle.compose.proofs.Answers.{started-not, started-10, started-0, broken-few, judged-rows}
 use Rattle.compose.proofs.RowScan.{rows-none, front-none}
 use Rattle.compose.proofs.paragraph.check.Statement.{statement}
 use Rattle.compose.proofs.paragraph.check.Tie as tie
@@ -22,4 +22,4 @@ check-spec =
     (λ c κs. search needs)
     (λ c. (search (needs, started-10), λ z. absurd (omega arith)))
     (λ c κs. search (needs, broken-few))
-    (λ c. (search (needs, started-0), λ z. search (needs, rows-kept))))
+    (λ c. (search (needs, started-0), λ z. search (needs, judged-rows))))

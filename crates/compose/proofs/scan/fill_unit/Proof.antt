@@ -1,8 +1,8 @@
--- `compose::rows::fill_unit` meets its contract, by the laws of RowScan.antt. Assumes nothing.
+-- `compose::scan::fill_unit` meets its contract, by the laws of RowScan.antt. Assumes nothing.
 use borrow.Author.Needs.{needs}
 use Rattle.compose.proofs.RowScan.{unit-ill, unit-inside, unit-class, joint-due, to-fill, unit-filled}
-use Rattle.compose.proofs.rows.fill_unit.Statement.{statement}
-use Rattle.compose.proofs.rows.fill_unit.Tie as tie
+use Rattle.compose.proofs.scan.fill_unit.Statement.{statement}
+use Rattle.compose.proofs.scan.fill_unit.Tie as tie
 
 -- where the function starts, from where the unit is looked for
 abbrev entry : tie.After-unit-before → tie.Start

@@ -1,10 +1,10 @@
--- `compose::rows::fill_lones` meets its contract. The loop's invariant is `Filled`. Assumes nothing.
+-- `compose::scan::fill_lones` meets its contract. The loop's invariant is `Filled`. Assumes nothing.
 use native.Mathlib.Omega.{arith}
 use borrow.Author.Needs.{needs}
 use Rattle.compose.specs.Scan.{Filled}
 use Rattle.compose.proofs.RowScan.{filled-none, filled-more}
-use Rattle.compose.proofs.rows.fill_lones.Statement.{statement}
-use Rattle.compose.proofs.rows.fill_lones.Tie as tie
+use Rattle.compose.proofs.scan.fill_lones.Statement.{statement}
+use Rattle.compose.proofs.scan.fill_lones.Tie as tie
 
 abbrev Inv-loop : tie.InvT-loop
 Inv-loop ws start stop end next classes spacing words ds₀ gs₀ os₀ i₀ column₀ ds gs os i column =

@@ -1,4 +1,4 @@
--- `compose::rows::fill_lone` meets its contract, by the laws of RowScan.antt. Assumes nothing.
+-- `compose::scan::fill_lone` meets its contract, by the laws of RowScan.antt. Assumes nothing.
 use mathlib.Core.Path.{sym, _∙_}
 use Prim.Native.Nat.{_-_}
 use native.Mathlib.Omega.{arith}
@@ -11,8 +11,8 @@ use Rattle.rules.proofs.Limits.{record-bounds, asked}
 use Rattle.compose.specs.Scan.{Fine}
 use Rattle.compose.proofs.UnitWalk.{known-fine}
 use Rattle.compose.proofs.RowScan.{filled-none, lone-due, lone-filled}
-use Rattle.compose.proofs.rows.fill_lone.Statement.{statement}
-use Rattle.compose.proofs.rows.fill_lone.Tie as tie
+use Rattle.compose.proofs.scan.fill_lone.Statement.{statement}
+use Rattle.compose.proofs.scan.fill_lone.Tie as tie
 
 -- where the function starts, and where the record was read
 abbrev entry : tie.After-record-at → tie.Start

@@ -1,11 +1,11 @@
--- `compose::rows::fill_rows` meets its contract. The loop's invariant is `Filled`. Assumes nothing.
+-- `compose::scan::fill_rows` meets its contract. The loop's invariant is `Filled`. Assumes nothing.
 use native.Mathlib.Omega.{arith}
 use borrow.Author.Needs.{needs}
 use Rattle.rules.specs.Values.{Laid}
 use Rattle.compose.specs.Scan.{Filled}
 use Rattle.compose.proofs.RowScan.{filled-none, filled-more, next-ok, scan-ill, scan-reached}
-use Rattle.compose.proofs.rows.fill_rows.Statement.{statement}
-use Rattle.compose.proofs.rows.fill_rows.Tie as tie
+use Rattle.compose.proofs.scan.fill_rows.Statement.{statement}
+use Rattle.compose.proofs.scan.fill_rows.Tie as tie
 
 abbrev Inv-loop : tie.InvT-loop
 Inv-loop ws start stop end classes spacing words ds₀ gs₀ os₀ i₀ column₀ ds gs os i column =
