@@ -1,9 +1,11 @@
 //! Whether a slot holds what the rules give its records.
 
-use gelumbrio::{Clinic, Record, Refusal, Sheet, Slot, SlotNumber, SLOT_WORDS};
+use gelumbrio::layout::{RECORD_COUNT_AT, SLOT_WORDS};
+use gelumbrio::limits::{MAX_CLINIC, MAX_RECORDS, MEASURES};
+use gelumbrio::{Clinic, Record, Refusal, Sheet, Slot, SlotNumber};
 
 use crate::characters::named;
-use crate::scratch::{try_records, MEASURES, MOST_RECORDS};
+use crate::scratch::try_records;
 
 /// What is found in a slot.
 #[derive(Debug, Clone, PartialEq, Eq)]
@@ -23,21 +25,19 @@ pub enum State {
     Damaged(String),
 }
 
-/// The highest number of a clinic.
-pub const HIGHEST_CLINIC: u32 = 65_535;
 /// What mends a damaged slot.
 pub const MENDING: &str = "Only a new sheet mends it, or an older copy of the file.";
 
 /// Looks at a slot of a sheet.
 pub fn state(slot: Slot<'_>) -> State {
     let Clinic(clinic) = slot.clinic();
-    if clinic > HIGHEST_CLINIC {
+    if clinic > MAX_CLINIC {
         return State::Damaged(format!("its clinic is {clinic}, and clinics are 0 to 65,535"));
     }
     if let Some(why) = damage(slot) {
         return State::Damaged(why);
     }
-    let is_empty = slot.words()[3..].iter().all(|&word| word == 0);
+    let is_empty = slot.words()[RECORD_COUNT_AT..].iter().all(|&word| word == 0);
     match (slot.in_use(), clinic) {
         (0, _) if !is_empty => State::Waiting,
         (0, 0) => State::Unassigned,
@@ -51,7 +51,7 @@ pub fn state(slot: Slot<'_>) -> State {
 /// The words of a slot in use as an edit leaves them that changes no record.
 fn composed(slot: Slot<'_>) -> Option<[u32; SLOT_WORDS]> {
     let mut sheet = Sheet::from_words(slot.words().to_vec()).ok()?;
-    sheet.edit(slot.clinic(), SlotNumber(0), 0, 0, &[]).ok()?;
+    sheet.edit(slot.clinic(), SlotNumber(0), 0..0, &[]).ok()?;
     <[u32; SLOT_WORDS]>::try_from(sheet.words()).ok()
 }
 
@@ -67,8 +67,8 @@ pub fn damage(slot: Slot<'_>) -> Option<String> {
     if indent >= measure {
         return Some(format!("its indent is {indent}, and its measure {measure}"));
     }
-    if count as usize > MOST_RECORDS {
-        return Some(format!("it has {count} records, and {MOST_RECORDS} are the most"));
+    if count as usize > MAX_RECORDS {
+        return Some(format!("it has {count} records, and {MAX_RECORDS} are the most"));
     }
     let records: Vec<Record> = slot.records().collect();
     let refusal = try_records(measure, indent, &records).err()?;

@@ -4,7 +4,7 @@
 //! them has half the size, and the other half is the space that the rules set, or do not. Western characters have
 //! widths of their own, and a record has the width that it says.
 
-use gelumbrio::Record;
+use gelumbrio::{Class, Record};
 
 use crate::characters::{columns, is_wide, printable, REPLACEMENT};
 
@@ -70,20 +70,23 @@ impl Shape {
 
 /// How far before a record's x its character's square starts.
 pub fn leading(record: &Record) -> u32 {
-    match (record.class, record.character().is_some_and(is_wide)) {
+    match (Class::from_number(record.class), record.character().is_some_and(is_wide)) {
         // An opening bracket's shape is in the right half, a middle dot's in the middle.
-        (1, true) => record.size / 2,
-        (5, true) => record.size / 4,
+        (Some(Class::OpeningBracket), true) => record.size / 2,
+        (Some(Class::MiddleDot), true) => record.size / 4,
         _ => 0,
     }
 }
 
 fn drawn(record: &Record) -> Drawn {
+    use Class::{ClosingBracket, Comma, FullStop, MiddleDot, OpeningBracket, Western};
     let &Record { class, size, advance, .. } = record;
     let Some(character) = record.character() else { return Drawn::Condensed };
-    match class {
-        1 | 2 | 5 | 6 | 7 if is_wide(character) => Drawn::FromStart { before: leading(record) },
-        _ if advance == size && class != 27 => Drawn::FromStart { before: 0 },
+    match Class::from_number(class) {
+        Some(OpeningBracket | ClosingBracket | MiddleDot | FullStop | Comma) if is_wide(character) => {
+            Drawn::FromStart { before: leading(record) }
+        }
+        class if advance == size && class != Some(Western) => Drawn::FromStart { before: 0 },
         _ if advance >= size || (2 * advance >= size && is_narrow(character)) => Drawn::InMiddle,
         _ if is_square(character) => Drawn::Smaller,
         _ => Drawn::Condensed,

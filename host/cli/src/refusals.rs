@@ -2,13 +2,14 @@
 
 use std::path::Path;
 
-use gelumbrio::{Clinic, Record, Refusal, Sheet, SlotNumber};
+use gelumbrio::limits::{MAX_GROUPED, MAX_LINES, MAX_RECORDS, MAX_RUBY};
+use gelumbrio::{Class, Clinic, Record, Refusal, Sheet, SlotNumber};
 
 use crate::characters::{named, REPLACEMENT};
 use crate::check;
 use crate::failure::{Failure, Spot};
 use crate::leaflet::{Leaflet, Reading};
-use crate::scratch::{self, MOST_RECORDS};
+use crate::scratch;
 
 /// A call on a slot of a sheet in a file.
 #[derive(Debug, Clone, Copy)]
@@ -94,7 +95,7 @@ impl Call<'_> {
             Some(why) => (why, check::MENDING.to_string()),
             None => {
                 let mending = format!("`{}` mends it.", composing(file, clinic, slot));
-                ("it has more than 256 lines".to_string(), mending)
+                (format!("it has more than {MAX_LINES} lines"), mending)
             }
         };
         (format!("slot {} of {} is damaged: {why}", slot.0, file.display()), mending)
@@ -132,6 +133,11 @@ pub fn no_size(size: u32) -> (String, String) {
     (format!("{size} is no size"), "A size is a multiple of 8, from 8 to 4,000.".to_string())
 }
 
+/// Whether a record of this class may be in a group.
+fn may_have_ruby(class: u32) -> bool {
+    matches!(Class::from_number(class), Some(Class::Hiragana | Class::Katakana | Class::Ideographic))
+}
+
 impl<'a> Change<'a> {
     /// A leaflet in place of all records.
     pub fn import(leaflet: &'a Leaflet, size: u32) -> Change<'a> {
@@ -143,7 +149,7 @@ impl<'a> Change<'a> {
     /// A refusal by the records that would result, in lines of this measure after this indent.
     pub fn refused(&self, refusal: Refusal, measure: u32, indent: u32) -> Failure {
         let (record, (what, advice)) = match refusal {
-            Refusal::TooManyRecords => (MOST_RECORDS, self.too_many()),
+            Refusal::TooManyRecords => (MAX_RECORDS, self.too_many()),
             Refusal::Record { record } => (record as usize, self.own_rules(record as usize)),
             Refusal::Group { record } => (record as usize, self.group_rule(record as usize)),
             Refusal::NoBreaking { record } => (record as usize, self.too_wide(record, measure, indent)),
@@ -157,7 +163,7 @@ impl<'a> Change<'a> {
     }
 
     fn too_many(&self) -> (String, String) {
-        let what = format!("the slot would have {} characters, and {MOST_RECORDS} are the most", self.count);
+        let what = format!("the slot would have {} characters, and {MAX_RECORDS} are the most", self.count);
         (what, "Part the text here or earlier, and put the rest into another slot.".to_string())
     }
 
@@ -168,7 +174,7 @@ impl<'a> Change<'a> {
         let before = record.checked_sub(1).map(|before| &self.records[before]);
         match before.is_some_and(|before| is_alike(before, &self.records[record])) {
             true => (
-                "this is the seventeenth character under one ruby, and 16 are the most".to_string(),
+                format!("this is the seventeenth character under one ruby, and {MAX_GROUPED} are the most"),
                 "Make two ruby elements of it.".to_string(),
             ),
             false => (
@@ -185,7 +191,7 @@ impl<'a> Change<'a> {
         let character = self.records[record].character().map_or(String::new(), named);
         if !scratch::is_size(size) {
             no_size(size)
-        } else if group != 0 && !matches!(class, 15 | 16 | 19) {
+        } else if group != 0 && !may_have_ruby(class) {
             (
                 format!(
                     "{character} may not stand under ruby: ideographs and kana may, small kana and marks may not"
@@ -194,7 +200,7 @@ impl<'a> Change<'a> {
             )
         } else {
             (
-                format!("there are {ruby_count} ruby characters over this, and 64 are the most"),
+                format!("there are {ruby_count} ruby characters over this, and {MAX_RUBY} are the most"),
                 "Shorten its <rt>.".to_string(),
             )
         }

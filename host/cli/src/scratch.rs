@@ -1,31 +1,24 @@
 //! Slots that are on nobody's sheet, to ask the library with.
 
-use std::ops::RangeInclusive;
-
-use gelumbrio::{class_of, Clinic, LeafletFault, Record, Refusal, Sheet, SlotNumber};
+use gelumbrio::limits::{MAX_RECORDS, MEASURES, SIZES, SIZE_STEP};
+use gelumbrio::{Clinic, LeafletFault, Record, Refusal, Sheet, SlotNumber, SlotSettings};
 
 use crate::leaflet::Reading;
 
 /// Whose slots they are.
 pub const CALLER: Clinic = Clinic(1);
-/// Measures, as document 01 limits them.
-pub const MEASURES: RangeInclusive<u32> = 8..=1_000_000;
-/// Sizes, as document 01 limits them; they are multiples of 8.
-pub const SIZES: RangeInclusive<u32> = 8..=4_000;
 /// The size of characters where none is named.
 pub const USUAL_SIZE: u32 = 80;
-/// The most records that a slot can have.
-pub const MOST_RECORDS: usize = 256;
 
 /// Whether records can have this size.
 pub fn is_size(size: u32) -> bool {
-    SIZES.contains(&size) && size.is_multiple_of(8)
+    SIZES.contains(&size) && size.is_multiple_of(SIZE_STEP)
 }
 
 /// A sheet of one slot, taken by [`CALLER`].
 pub fn fresh(measure: u32, indent: u32) -> Result<(Sheet, SlotNumber), Refusal> {
     let mut sheet = Sheet::new(1)?;
-    sheet.set_up(&[CALLER], &[measure], &[indent])?;
+    sheet.set_up(&[SlotSettings { clinic: CALLER, measure, indent }])?;
     let slot = sheet.take(CALLER)?;
     Ok((sheet, slot))
 }
@@ -47,7 +40,7 @@ pub fn leaflet_fault(text: &[u8]) -> Option<LeafletFault> {
 /// What a fresh slot says to these records.
 pub fn try_records(measure: u32, indent: u32, records: &[Record]) -> Result<(), Refusal> {
     let (mut sheet, slot) = fresh(measure, indent)?;
-    sheet.edit(CALLER, slot, 0, 0, &words(records)).map(|_edited| ())
+    sheet.edit(CALLER, slot, .., records).map(|_edited| ())
 }
 
 /// The shortest measure in which these records can be broken into lines, if there is one.
@@ -69,16 +62,12 @@ pub fn least_measure(indent: u32, records: &[Record]) -> Option<u32> {
     Some(high)
 }
 
-/// The words of records, as an edit takes them.
-pub fn words(records: &[Record]) -> Vec<u32> {
-    records.iter().flat_map(|record| record.words()).collect()
-}
-
 /// The records of an accepted leaflet, as an import makes them; of more than a slot takes, one more than it takes. Its
 /// groups get the lowest numbers that are not among those taken: next to a group of the same number they would be one
 /// with it.
 pub fn records(reading: &Reading, size: u32, taken: &[Record]) -> Vec<Record> {
-    let mut records: Vec<Record> = characters(reading, size);
+    let letters = reading.letters.iter().take(MAX_RECORDS + 1);
+    let mut records: Vec<Record> = letters.map(|letter| record(letter.character, size)).collect();
     let mut free = (1..).filter(|number| taken.iter().all(|record| record.group != *number));
     for element in &reading.elements {
         let group = free.next().unwrap_or(0);
@@ -90,22 +79,11 @@ pub fn records(reading: &Reading, size: u32, taken: &[Record]) -> Vec<Record> {
     records
 }
 
-/// The records that imports make of a leaflet's characters, each alone.
-fn characters(reading: &Reading, size: u32) -> Vec<Record> {
-    let (mut sheet, slot) = widest();
-    let mut imported = |character: char| {
-        sheet.import(CALLER, slot, size, character.to_string()).ok()?;
-        sheet.slot(slot)?.records().next()
-    };
-    let letters = reading.letters.iter().map(|letter| letter.character).take(MOST_RECORDS + 1);
-    let record = |character| imported(character).unwrap_or_else(|| of_no_size(character, size));
-    letters.map(record).collect()
-}
-
-/// A record of a size that is none, which an edit refuses as the import did, whatever its advance.
-fn of_no_size(character: char, size: u32) -> Record {
-    let class = class_of(character).unwrap_or(0);
-    Record { code_point: character.into(), class, size, advance: size, group: 0, ruby_count: 0 }
+/// The record of a leaflet's character. In an accepted one each has a class; an edit refuses a record that has none.
+fn record(character: char, size: u32) -> Record {
+    let code_point = character.into();
+    let of_no_class = Record { code_point, class: 0, size, advance: size, group: 0, ruby_count: 0 };
+    Record::new(character, size).unwrap_or(of_no_class)
 }
 
 #[cfg(test)]

@@ -8,7 +8,9 @@ use std::fs::{self, File, OpenOptions};
 use std::io::{self, Read};
 use std::path::{Path, PathBuf};
 
-use gelumbrio::{Sheet, MAX_SLOTS, SLOT_WORDS};
+use gelumbrio::layout::SLOT_WORDS;
+use gelumbrio::limits::MAX_SLOTS;
+use gelumbrio::Sheet;
 
 use crate::failure::Failure;
 use crate::files::{identity, there_already, Staged};

@@ -5,7 +5,7 @@
 //! right. Ruby characters are as large as others, so ruby stands over where its base starts, and in a row above where
 //! it would run into other ruby.
 
-use gelumbrio::Line;
+use gelumbrio::{Class, Line};
 
 use crate::characters::{columns, printable, REPLACEMENT};
 use crate::glyph::leading;
@@ -73,7 +73,7 @@ fn base_row(paragraph: &Paragraph, line: &Line, column: u32, marks: bool) -> (Ro
         let character = record.character().unwrap_or(REPLACEMENT);
         let filling = if gaps.contains(&index) { GAP } else { ' ' };
         let start = i64::from(x) - i64::from(leading(record));
-        let is_number = record.class == 27 && character.is_alphanumeric();
+        let is_number = record.class == Class::Western.number() && character.is_alphanumeric();
         // The space around a number, or a word, is less than a column. All of it is put before, so that a dose is read
         // with its unit.
         let start = match (was_number, is_number) {

@@ -4,7 +4,8 @@ mod common;
 
 use common::{ward, Folder, Said};
 use compare::random::Random;
-use gelumbrio::{Clinic, Sheet, SlotNumber, LINES_AT, PLACES_AT, RECORDS_AT, SLOT_WORDS};
+use gelumbrio::layout::{CLINIC_AT, HEAD_WORDS, IN_USE_AT, LINES_AT, PLACES_AT, RECORDS_AT, SLOT_WORDS};
+use gelumbrio::{Clinic, Sheet, SlotNumber};
 
 const SHEETS: u32 = 150;
 const SLOT: SlotNumber = SlotNumber(0);
@@ -18,7 +19,7 @@ fn junk(random: &mut Random) -> Sheet {
     let mut words = sheet.into_words();
     for _ in 0..=random.below(2) {
         let at = match random.below(5) {
-            0 => random.below(8) as usize,
+            0 => random.below(HEAD_WORDS as u32) as usize,
             1 => RECORDS_AT + random.below(60) as usize,
             2 => PLACES_AT + random.below(60) as usize,
             3 => LINES_AT + random.below(12) as usize,
@@ -59,7 +60,7 @@ fn commands_answer_as_their_calls_do_on_any_words() {
         let own = ["--clinic", "7", "--slot", "0"];
         type Change = fn(&mut Sheet) -> bool;
         let changes: [(&[&str], Change); 4] = [
-            (&["edit", "ward", "--at", "0"], |sheet| sheet.edit(Clinic(7), SLOT, 0, 0, &[]).is_ok()),
+            (&["edit", "ward", "--at", "0"], |sheet| sheet.edit(Clinic(7), SLOT, 0..0, &[]).is_ok()),
             (&["import", "ward", "-"], |sheet| sheet.import(Clinic(7), SLOT, 80, "頭痛").is_ok()),
             (&["give", "ward"], |sheet| sheet.give_back(Clinic(7), SLOT).is_ok()),
             (&["take", "ward"], |sheet| sheet.take(Clinic(7)).is_ok()),
@@ -75,7 +76,7 @@ fn commands_answer_as_their_calls_do_on_any_words() {
         // What is shown is what an edit would leave, where a read is accepted and an edit too.
         let said = call(&[&["show", "ward", "--svg", "x.svg"], &own[..]].concat());
         let can_show =
-            sheet.read(Clinic(7), SLOT).is_ok() && sheet.clone().edit(Clinic(7), SLOT, 0, 0, &[]).is_ok();
+            sheet.read(Clinic(7), SLOT).is_ok() && sheet.clone().edit(Clinic(7), SLOT, 0..0, &[]).is_ok();
         assert!(agrees(&folder, &said, can_show, &sheet), "{said:?}");
         let said = call(&["sheet", "check", "ward"]);
         assert!(said.status == 0 || (said.status == 1 && said.out.is_empty()), "{said:?}");
@@ -93,8 +94,9 @@ fn commands_answer_as_their_calls_do_on_any_words() {
 /// use by clinic 7 and the other one as it was set up.
 fn is_sound(sheet: &Sheet) -> Option<bool> {
     let words = sheet.words();
-    let is_asked = (words[0], words[5]) == (7, 1) && words[SLOT_WORDS..] == ward().words()[SLOT_WORDS..];
+    let is_asked =
+        (words[CLINIC_AT], words[IN_USE_AT]) == (7, 1) && words[SLOT_WORDS..] == ward().words()[SLOT_WORDS..];
     let mut left = sheet.clone();
-    let is_accepted = left.edit(Clinic(7), SLOT, 0, 0, &[]).is_ok();
+    let is_accepted = left.edit(Clinic(7), SLOT, 0..0, &[]).is_ok();
     is_asked.then(|| is_accepted && left == *sheet)
 }

@@ -3,7 +3,8 @@
 mod common;
 
 use common::{text, ward, Folder};
-use gelumbrio::{Clinic, Sheet, SlotNumber, PLACES_AT, SLOT_WORDS};
+use gelumbrio::layout::{PLACES_AT, SLOT_WORDS};
+use gelumbrio::{Clinic, Record, Sheet, SlotNumber};
 
 const DOSE: &str = "<ruby>食後<rt>しょくご</rt></ruby>に1回2錠、水で飲みます。";
 const SLOT: SlotNumber = SlotNumber(0);
@@ -20,7 +21,7 @@ fn a_sheets_file_is_its_words() {
          slot 2: clinic 0, measure 8, indent 7: nobody's\n"
     );
     let mut sheet = Sheet::new(3).unwrap();
-    sheet.set_up(&[Clinic(7), Clinic(9), Clinic(0)], &[1760, 2400, 8], &[80, 0, 7]).unwrap();
+    sheet.set_up_words(&[7, 9, 0], &[1760, 2400, 8], &[80, 0, 7]).unwrap();
     let words: Vec<u8> = sheet.words().iter().flat_map(|word| word.to_le_bytes()).collect();
     assert_eq!(folder.read("ward"), words);
     assert_eq!(folder.names(), ["ward"]);
@@ -48,14 +49,14 @@ fn every_command_does_what_the_call_does() {
     // 朝食 in place of 水で, with ruby: its group must not be one with the other.
     let insert = [&["edit", "ward", "--at", "8", "--delete", "2", "-"], &slot[..]].concat();
     folder.run_with(&insert, "<ruby>朝食<rt>ちょうしょく</rt></ruby>\n").accepted();
-    let group = |code_point| [code_point, 19, 80, 80, 2, 6];
-    sheet.edit(Clinic(7), SLOT, 8, 2, &[group(0x671D), group(0x98DF)].concat()).unwrap();
+    let group = ['朝', '食'].map(|character| Record::new(character, 80).unwrap().in_group(2, 6));
+    sheet.edit(Clinic(7), SLOT, 8..10, &group).unwrap();
     assert_eq!(folder.sheet("ward"), sheet);
     assert_eq!(text(&sheet, 0), "食後に1回2錠、朝食飲みます。");
 
     // Deleting alone needs no leaflet.
     folder.run(&[&["edit", "ward", "--at", "0", "--delete", "3"], &slot[..]].concat()).accepted();
-    sheet.edit(Clinic(7), SLOT, 0, 3, &[]).unwrap();
+    sheet.edit(Clinic(7), SLOT, ..3, &[]).unwrap();
     assert_eq!(folder.sheet("ward"), sheet);
 
     assert_eq!(folder.run(&["take", "ward", "--clinic", "9"]).accepted(), "slot 1\n");

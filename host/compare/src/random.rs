@@ -3,7 +3,7 @@
 use std::env;
 use std::ops::RangeInclusive;
 
-use crate::Scope;
+use crate::scope::Scope;
 
 /// The variable that picks a single seed.
 pub const SEED_VARIABLE: &str = "GELUMBRIO_SEED";

@@ -1,14 +1,14 @@
 //! One case on the program under test, on the second program and in the book.
 
 use std::fmt::Debug;
-use std::ops::Range;
 
 use second::book::Book;
 use second::{kept, Edit, Import};
 
 use crate::calls::{Call, Case};
-use crate::layout::{self, record_words, slot_words};
+use crate::layout::{record_words, slot_words};
 use crate::program::{Program, Second, SECOND};
+use crate::same::{same_answer, same_number, same_part, same_words};
 use crate::single::single_edits;
 use crate::tally::{Outcome, Tally};
 
@@ -199,39 +199,4 @@ impl<'a> Run<'a> {
 fn as_the_rules_give(slot: &[u32]) -> Result<Vec<u32>, String> {
     let words = second::slot_words(slot[0], slot[1], slot[2], record_words(slot));
     words.map_err(|refusal| format!("it accepts an edit of records that are refused with {refusal:?}"))
-}
-
-/// Whether two answers of a call are the same; otherwise what to tell.
-pub fn same_answer<A: PartialEq + Debug>(tested: A, other: A, whose: &str) -> Result<(), String> {
-    if tested == other {
-        return Ok(());
-    }
-    Err(format!("it answers {tested:?}; {whose}: {other:?}"))
-}
-
-fn same_number(tested: u32, other: u32, whose: &str) -> Result<(), String> {
-    if tested == other {
-        return Ok(());
-    }
-    Err(format!("read's number is {tested}; {whose}: {other}"))
-}
-
-/// A refused read hands back 0..0. Where an accepted one is empty, document 01 leaves free where.
-fn same_part(tested: &Range<usize>, second: &Range<usize>, number: u32) -> Result<(), String> {
-    let both_empty = tested.is_empty() && second.is_empty();
-    if tested == second || (number == 0 && both_empty) {
-        return Ok(());
-    }
-    Err(format!("read hands back {tested:?}; {SECOND}: {second:?}"))
-}
-
-/// Whether two sheets hold the same words; otherwise the first that differs.
-pub fn same_words(tested: &[u32], other: &[u32], whose: &str) -> Result<(), String> {
-    if tested == other {
-        return Ok(());
-    }
-    match tested.iter().zip(other).position(|(a, b)| a != b) {
-        Some(at) => Err(format!("{} is {}; {whose}: {}", layout::name(at), tested[at], other[at])),
-        None => Err(format!("the sheet has {} words; {whose}: {}", tested.len(), other.len())),
-    }
 }

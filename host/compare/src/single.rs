@@ -5,7 +5,7 @@ use second::{Edit, EditAnswer};
 
 use crate::layout::{record_words, IN_USE, SLOT};
 use crate::program::Program;
-use crate::run::{same_answer, same_words};
+use crate::same::{same_answer, same_words};
 
 /// Whether each slot of the sheet holds what the program leaves by a single edit of a fresh slot, equally in use, that
 /// inserts all of the book's records. Where there are none, the slot stays fresh.

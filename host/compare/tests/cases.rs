@@ -7,7 +7,7 @@ use second::leaflet::by_hand::{all_refused, ACCEPTED};
 
 #[test]
 fn cases() {
-    let tally = compare::full("cases", compare::comparisons::cases::compare);
+    let tally = compare::report::full("cases", compare::comparisons::cases::compare);
     tally.assert_seen(1, [SetUp(0), Edit(0), Edit(8), Edit(10), Edit(12), ReadLines, ReadNoLines]);
     tally.assert_seen(1, Outcome::REDONE);
     tally.assert_seen(ACCEPTED.len() as u64, [Import(0)]);

@@ -13,7 +13,8 @@ use compare::faults::{
 use compare::generate::plain;
 use compare::layout::{CLASSES, LINES};
 use compare::program::{Program, Second, SECOND, UNDER_TEST};
-use compare::{heading, Scope};
+use compare::report::heading;
+use compare::scope::Scope;
 
 /// The first failure of these comparisons, whose case shows the difference again.
 fn find(fault: Fault, comparisons: &[Comparison]) -> Failure {
@@ -190,7 +191,8 @@ fn lists_asked_wrongly_in_sequences_and_junk() {
 
 #[test]
 fn misimports() {
-    each_is_found(&MISIMPORTS.map(Fault::Imported), &[leaflet::compare, limits::compare], 4);
+    let faults: Vec<Fault> = MISIMPORTS.concat().into_iter().map(Fault::Imported).collect();
+    each_is_found(&faults, &[leaflet::compare, limits::compare], 4);
 }
 
 /// Those of the call, and not of how a text is read, show among all other calls too.

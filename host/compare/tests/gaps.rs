@@ -5,7 +5,7 @@ use compare::tally::Way::{Natural, Short, Shrunk, Stretched};
 
 #[test]
 fn gaps() {
-    let tally = compare::full("gaps", compare::comparisons::gaps::compare);
+    let tally = compare::report::full("gaps", compare::comparisons::gaps::compare);
     // Every pair of the eighteen classes and two groups, in every pair of five sizes.
     let pairs = 20 * 20 * 5 * 5;
     tally.assert_seen(pairs, [Line(Natural), FinalLine(Natural)]);

@@ -5,7 +5,7 @@ use compare::tally::Outcome::{Edit, GiveBack, Import, ReadLines, ReadNoLines, Re
 
 #[test]
 fn junk() {
-    let tally = compare::full("junk", compare::comparisons::junk::compare);
+    let tally = compare::report::full("junk", compare::comparisons::junk::compare);
     if !one_seed_is_picked() {
         // Every sheet has a length that is one.
         tally.assert_seen(100, [0, 3, 13].map(Take));

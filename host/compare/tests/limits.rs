@@ -4,7 +4,7 @@ use compare::tally::Outcome::{self, Edit, GiveBack, Import, SetUp, Take};
 
 #[test]
 fn limits() {
-    let tally = compare::full("limits", compare::comparisons::limits::compare);
+    let tally = compare::report::full("limits", compare::comparisons::limits::compare);
     tally.assert_seen(1, [0, 1, 11].map(SetUp));
     tally.assert_seen(1, [0, 1, 3, 13].map(Take));
     tally.assert_seen(1, [0, 1, 2, 3, 4, 14].map(GiveBack));

@@ -4,6 +4,6 @@ use compare::tally::Outcome::Edit;
 
 #[test]
 fn pairs() {
-    let tally = compare::full("pairs", compare::comparisons::pairs::compare);
+    let tally = compare::report::full("pairs", compare::comparisons::pairs::compare);
     tally.assert_seen(100, [0, 10].map(Edit));
 }

@@ -5,7 +5,7 @@ use compare::tally::Outcome::{self, Edit};
 
 #[test]
 fn redone() {
-    let tally = compare::full("redone", compare::comparisons::redone::compare);
+    let tally = compare::report::full("redone", compare::comparisons::redone::compare);
     tally.assert_seen(1_000, Outcome::REDONE);
     if !one_seed_is_picked() {
         // A refused edit reports 0: among these, of slots with lines.

@@ -9,13 +9,13 @@ const GROUPS: u64 = 16 * 64 * ruby::GROUP_SIZES.len() as u64;
 
 #[test]
 fn ruby_place() {
-    let tally = compare::full("ruby place", ruby::places);
+    let tally = compare::report::full("ruby place", ruby::places);
     tally.assert_seen(1_000_000, [0, 8].map(RubyPlace));
 }
 
 #[test]
 fn groups() {
-    let tally = compare::full("groups", ruby::groups);
+    let tally = compare::report::full("groups", ruby::groups);
     // On a line of their own, on a final line that they just fit, and on one that is not final.
     tally.assert_seen(GROUPS, [Edit(0), FinalLine(Natural), Line(Natural), Line(Stretched(2))]);
     // Where the measure is too narrow by 1; that of a group of advance 8 is no measure.
@@ -25,7 +25,7 @@ fn groups() {
 /// Of n records, those with more than 2n ruby characters; a single record stands where it stood.
 #[test]
 fn stored_groups() {
-    let tally = compare::full("stored groups", ruby::stored);
+    let tally = compare::report::full("stored groups", ruby::stored);
     let moved: u64 = (2..=16).map(|n| 64 - 2 * n).sum();
     tally.assert_seen(moved * ruby::GROUP_SIZES.len() as u64, [Edit(0), ReadLines]);
 }

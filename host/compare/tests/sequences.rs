@@ -5,7 +5,7 @@ use compare::tally::Outcome::{self, Edit, GiveBack, Import, SetUp, Take};
 
 #[test]
 fn sequences() {
-    let tally = compare::full("sequences", compare::comparisons::sequences::compare);
+    let tally = compare::report::full("sequences", compare::comparisons::sequences::compare);
     if !one_seed_is_picked() {
         tally.assert_seen(20, [0, 1, 11].map(SetUp));
         tally.assert_seen(20, [0, 1, 3, 13].map(Take));

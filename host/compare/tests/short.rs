@@ -4,6 +4,6 @@ use compare::tally::Outcome::Edit;
 
 #[test]
 fn short() {
-    let tally = compare::full("short", compare::comparisons::short::compare);
+    let tally = compare::report::full("short", compare::comparisons::short::compare);
     tally.assert_seen(100, [0, 9, 10].map(Edit));
 }

@@ -4,7 +4,7 @@ use compare::tally::Outcome::{Edit, GiveBack, Import, ReadLines, ReadRefused, Ta
 
 #[test]
 fn slots() {
-    let tally = compare::full("slots", compare::comparisons::slots::compare);
+    let tally = compare::report::full("slots", compare::comparisons::slots::compare);
     tally.assert_seen(1_000, [0, 3, 13].map(Take));
     tally.assert_seen(1_000, [0, 2, 3, 4, 14].map(GiveBack));
     tally.assert_seen(1_000, [0, 2, 3, 4, 14].map(Edit));

@@ -2,9 +2,9 @@
 
 use compare::comparisons::cases;
 use compare::program::Second;
+use compare::scope::Scope;
 use compare::tally::Outcome::{self, Edit, FinalLine, Line, ReadLines, ReadNoLines, ReadRefused};
 use compare::tally::{Redone, Tally, Way};
-use compare::Scope;
 
 /// A tally of each outcome of a read but this one.
 fn without(missing: Outcome) -> Tally {

@@ -1,13 +1,26 @@
 //! Where an imported text has its first fault, for a person (document 02, request 05).
 
+use std::error::Error;
 use std::fmt;
 
-use crate::class_of;
+use crate::class::class_of;
 use crate::place::TextPlace;
 
 /// Where the first fault of an imported text is, and what stands there.
 ///
 /// The text before it is what some leaflet begins with, and no leaflet goes on so.
+///
+/// ```
+/// use gelumbrio::{Clinic, Found, Refusal, Sheet, SlotNumber};
+///
+/// // It is looked for before all else: there is no such slot.
+/// let Err(Refusal::Leaflet(fault)) = Sheet::new(1)?.import(Clinic(7), SlotNumber(1), 80, "食後<br>") else {
+///     panic!("<br> is no tag of a leaflet");
+/// };
+/// assert_eq!((fault.offset, fault.line, fault.column), (6, 1, 3));
+/// assert!(matches!(fault.found, Found::Tag(tag) if tag.as_bytes() == b"<br>"));
+/// # Ok::<(), Refusal>(())
+/// ```
 #[derive(Debug, Clone, Copy, PartialEq, Eq, Hash)]
 #[non_exhaustive]
 pub struct LeafletFault {
@@ -21,7 +34,14 @@ pub struct LeafletFault {
     pub found: Found,
 }
 
-/// What stands where no leaflet has it.
+/// What stands where no leaflet has it. Written out, it says why it cannot stand there.
+///
+/// ```
+/// use gelumbrio::Found;
+///
+/// assert_eq!(Found::Character('&').to_string(), "'&' may not stand in a leaflet");
+/// assert_eq!(Found::End.to_string(), "the text ends here, inside a ruby element");
+/// ```
 #[derive(Debug, Clone, Copy, PartialEq, Eq, Hash)]
 #[non_exhaustive]
 pub enum Found {
@@ -36,6 +56,18 @@ pub enum Found {
 }
 
 /// The first bytes of what stands somewhere in a text.
+///
+/// ```
+/// use gelumbrio::{Clinic, Excerpt, Found, Refusal, Sheet, SlotNumber};
+///
+/// let text = format!("<ruby class={}>", "a".repeat(100));
+/// let refusal = Sheet::new(1)?.import(Clinic(7), SlotNumber(0), 80, &text);
+/// let Err(Refusal::Leaflet(fault)) = refusal else { panic!("tags have no attributes") };
+/// let Found::Tag(excerpt) = fault.found else { panic!("a tag is at fault") };
+/// assert_eq!(excerpt.as_bytes(), &text.as_bytes()[..Excerpt::MOST]);
+/// assert!(excerpt.is_cut());
+/// # Ok::<(), Refusal>(())
+/// ```
 #[derive(Clone, Copy, PartialEq, Eq, Hash)]
 pub struct Excerpt {
     bytes: [u8; Excerpt::MOST],
@@ -63,11 +95,29 @@ impl Excerpt {
     }
 
     /// The bytes that it holds.
+    ///
+    /// ```
+    /// use gelumbrio::{Clinic, Found, Refusal, Sheet, SlotNumber};
+    ///
+    /// let refusal = Sheet::new(1)?.import(Clinic(7), SlotNumber(0), 80, b"1\xE3\x81");
+    /// let Err(Refusal::Leaflet(fault)) = refusal else { panic!("the text is cut short") };
+    /// assert!(matches!(fault.found, Found::IllFormed(bytes) if bytes.as_bytes() == b"\xE3\x81"));
+    /// # Ok::<(), Refusal>(())
+    /// ```
     pub fn as_bytes(&self) -> &[u8] {
         &self.bytes[..usize::from(self.length)]
     }
 
     /// Whether there is more than it holds.
+    ///
+    /// ```
+    /// use gelumbrio::{Clinic, Found, Refusal, Sheet, SlotNumber};
+    ///
+    /// let refusal = Sheet::new(1)?.import(Clinic(7), SlotNumber(0), 80, "食後<br>に");
+    /// let Err(Refusal::Leaflet(fault)) = refusal else { panic!("<br> is no tag of a leaflet") };
+    /// assert!(matches!(fault.found, Found::Tag(tag) if !tag.is_cut()));
+    /// # Ok::<(), Refusal>(())
+    /// ```
     pub fn is_cut(&self) -> bool {
         self.is_cut
     }
@@ -157,6 +207,8 @@ impl fmt::Display for LeafletFault {
         write!(f, "line {line}, column {column} of the leaflet (byte {offset}): {found}")
     }
 }
+
+impl Error for LeafletFault {}
 
 /// Why it cannot stand there.
 impl fmt::Display for Found {

@@ -4,15 +4,17 @@
 //! 01 says what every call answers and every word of the sheet afterwards.
 //!
 //! ```
-//! use gelumbrio::{Clinic, Kind, Refusal, Sheet};
+//! use gelumbrio::{Clinic, Kind, Record, Refusal, Sheet, SlotSettings};
 //!
 //! let mut sheet = Sheet::new(2)?;
-//! sheet.set_up(&[Clinic(7), Clinic(9)], &[440, 800], &[0, 0])?;
+//! sheet.set_up(&[
+//!     SlotSettings { clinic: Clinic(7), measure: 440, indent: 0 },
+//!     SlotSettings { clinic: Clinic(9), measure: 800, indent: 0 },
+//! ])?;
 //! let slot = sheet.take(Clinic(7))?;
 //!
 //! // Six ideographs of size 80 in a measure of 440.
-//! let ideograph = [0x6F22, 19, 80, 80, 0, 0];
-//! let edited = sheet.edit(Clinic(7), slot, 0, 0, &[ideograph; 6].concat())?;
+//! let edited = sheet.edit(Clinic(7), slot, .., &[Record::new('漢', 80)?; 6])?;
 //! assert_eq!((edited.lines, edited.redone), (2, 2));
 //!
 //! let lines = sheet.lines(Clinic(7), slot)?;
@@ -25,15 +27,15 @@
 //! // A slot that is given back is empty, and free to be taken again.
 //! sheet.give_back(Clinic(7), slot)?;
 //! assert_eq!(sheet.read(Clinic(7), slot), Err(Refusal::NotInUse));
-//! # Ok::<(), Refusal>(())
+//! # Ok::<(), Box<dyn std::error::Error>>(())
 //! ```
 //!
 //! A leaflet from the web, with ruby, is imported as it is:
 //!
 //! ```
-//! # use gelumbrio::{Clinic, Refusal, Sheet};
+//! # use gelumbrio::{Clinic, Refusal, Sheet, SlotSettings};
 //! # let mut sheet = Sheet::new(1)?;
-//! # sheet.set_up(&[Clinic(7)], &[440], &[0])?;
+//! # sheet.set_up(&[SlotSettings { clinic: Clinic(7), measure: 440, indent: 0 }])?;
 //! # let slot = sheet.take(Clinic(7))?;
 //! let text = "<ruby>頓服<rt>とんぷく</rt></ruby>は、1日3回まで。";
 //! let imported = sheet.import(Clinic(7), slot, 80, text)?;
@@ -46,7 +48,8 @@
 //! ```
 //! # use gelumbrio::{Clinic, Sheet, SlotNumber};
 //! # let mut sheet = Sheet::new(1).unwrap();
-//! let _ = sheet.edit(Clinic(1), SlotNumber(0), 0, 0, &[]);
+//! let _ = sheet.edit(Clinic(1), SlotNumber(0), .., &[]);
+//! let _ = sheet.edit_words(Clinic(1), SlotNumber(0), 0, 0, &[]);
 //! let _ = sheet.give_back(Clinic(1), SlotNumber(0));
 //! let _ = sheet.take(Clinic(1));
 //! ```
@@ -56,7 +59,13 @@
 //! ```compile_fail,E0308
 //! # use gelumbrio::{Clinic, Sheet, SlotNumber};
 //! # let mut sheet = Sheet::new(1).unwrap();
-//! let _ = sheet.edit(SlotNumber(0), Clinic(1), 0, 0, &[]);
+//! let _ = sheet.edit(SlotNumber(0), Clinic(1), .., &[]);
+//! ```
+//!
+//! ```compile_fail,E0308
+//! # use gelumbrio::{Clinic, Sheet, SlotNumber};
+//! # let mut sheet = Sheet::new(1).unwrap();
+//! let _ = sheet.edit_words(SlotNumber(0), Clinic(1), 0, 0, &[]);
 //! ```
 //!
 //! ```compile_fail,E0308
@@ -70,81 +79,38 @@
 //! # let mut sheet = Sheet::new(1).unwrap();
 //! let _ = sheet.take(SlotNumber(0));
 //! ```
+//!
+//! ```compile_fail,E0308
+//! # use gelumbrio::{SlotNumber, SlotSettings};
+//! let _ = SlotSettings { clinic: SlotNumber(0), measure: 440, indent: 0 };
+//! ```
 
+mod class;
+mod edited;
+pub mod layout;
 mod leaflet;
+pub mod limits;
 mod lines;
 mod place;
 pub mod raw;
+mod record;
 mod refusal;
+mod ruby;
 mod sheet;
 mod slot;
+mod stretch;
 
+pub use class::{class_of, in_list, Class, NoClass};
+pub use edited::Edited;
 pub use leaflet::{Excerpt, Found, LeafletFault};
 pub use lines::{Kind, Line};
 pub use place::TextPlace;
 pub use raw::{Clinic, SlotNumber};
+pub use record::Record;
 pub use refusal::Refusal;
-pub use sheet::{Edited, Sheet, LINES_AT, MAX_SLOTS, PLACES_AT, RECORDS_AT, RECORD_WORDS, SLOT_WORDS};
-pub use slot::{Record, Slot};
-
-/// The offset of the k-th ruby character from the start of its group, `k` counted from 0.
-///
-/// `base_advance` is the sum of the base characters' advances; `size` is theirs, and a ruby
-/// character's is half of it.
-///
-/// Where the ruby is shorter than its base, two or more characters start and end together with it, and the gaps
-/// between them open alike; a single one stands in the middle. Where it is longer, it is set solid, and the base
-/// under it is opened or centred in the same way: in [`Line::xs`].
-///
-/// ```
-/// use gelumbrio::ruby_place;
-///
-/// // Over two ideographs of size 80.
-/// assert_eq!([0, 1, 2].map(|k| ruby_place(160, 3, 80, k)), [Ok(0), Ok(60), Ok(120)]);
-/// assert_eq!(ruby_place(160, 1, 80, 0), Ok(60));
-/// // Over one of them.
-/// assert_eq!([0, 1, 2].map(|k| ruby_place(80, 3, 80, k)), [Ok(0), Ok(40), Ok(80)]);
-/// ```
-pub fn ruby_place(base_advance: u32, ruby_count: u32, size: u32, k: u32) -> Result<u32, Refusal> {
-    let place = raw::ruby_place(base_advance, ruby_count, size, k);
-    match place.number {
-        0 => Ok(place.offset),
-        8 => Err(Refusal::Ruby),
-        number => Err(Refusal::Unknown { number, place: 0 }),
-    }
-}
-
-/// Whether the published list of this class has this character. A record needs it: an edit refuses one whose
-/// class's list lacks its character, with [`Refusal::NotListed`].
-///
-/// The lists are those of JLReq Annex A; class 19's has every unified ideograph of Unicode 15.1 besides. A character
-/// may stand in more than one, and in none:
-///
-/// ```
-/// use gelumbrio::in_list;
-///
-/// assert!(in_list(7, '、') && !in_list(19, '、'));
-/// assert!(in_list(1, '(') && in_list(27, '('));
-/// assert!(!in_list(1, '（'));
-/// ```
-pub fn in_list(class: u32, character: char) -> bool {
-    raw::in_list(class, character.into()) != 0
-}
-
-/// The class that the published lists give this character: 27 if that list has it, otherwise the lowest-numbered
-/// list's, if one has it.
-///
-/// ```
-/// use gelumbrio::class_of;
-///
-/// assert_eq!(['漢', '、', '(', '（'].map(class_of), [Some(19), Some(7), Some(27), None]);
-/// ```
-pub fn class_of(character: char) -> Option<u32> {
-    match raw::class_of(character.into()) {
-        0 => None,
-        class => Some(class),
-    }
-}
+pub use ruby::ruby_place;
+pub use sheet::Sheet;
+pub use slot::{Slot, SlotSettings};
 
 /// The README's Rust snippet, compiled and run as a doc-test.
 #[cfg(doctest)]

@@ -2,10 +2,16 @@
 
 use std::fmt;
 
-use crate::sheet::{LINES_AT, PLACES_AT};
+use crate::layout::{LINES_AT, LINE_WORDS, PLACES_AT, PLACE_WORDS};
 use crate::slot::Slot;
 
 /// How a line ends.
+///
+/// ```
+/// use gelumbrio::Kind;
+///
+/// assert_eq!([Kind::Flush, Kind::Short, Kind::Final].map(|kind| kind.to_string()), ["flush", "short", "final"]);
+/// ```
 #[derive(Debug, Clone, Copy, PartialEq, Eq, Hash)]
 pub enum Kind {
     /// At the measure.
@@ -17,6 +23,21 @@ pub enum Kind {
 }
 
 /// A composed line.
+///
+/// ```
+/// use gelumbrio::{Clinic, Kind, Line, Record, Sheet, SlotSettings};
+///
+/// let mut sheet = Sheet::new(1)?;
+/// sheet.set_up(&[SlotSettings { clinic: Clinic(7), measure: 100, indent: 0 }])?;
+/// let slot = sheet.take(Clinic(7))?;
+/// sheet.edit(Clinic(7), slot, .., &[Record::new('錠', 80)?; 2])?;
+/// // Nothing in a line of one character could be stretched.
+/// assert_eq!(sheet.lines(Clinic(7), slot)?, [
+///     Line { first_record: 0, end_x: 80, kind: Kind::Short, xs: vec![0] },
+///     Line { first_record: 1, end_x: 80, kind: Kind::Final, xs: vec![0] },
+/// ]);
+/// # Ok::<(), Box<dyn std::error::Error>>(())
+/// ```
 #[derive(Debug, Clone, PartialEq, Eq)]
 pub struct Line {
     /// The number of its first record.
@@ -31,10 +52,10 @@ pub struct Line {
 
 /// The lines that these line words are of a slot, unless they do not share out its records.
 pub(crate) fn typed(slot: Slot<'_>, lines: &[u32]) -> Option<Vec<Line>> {
-    let (places, _) = slot.words()[PLACES_AT..LINES_AT].as_chunks::<2>();
+    let (places, _) = slot.words()[PLACES_AT..LINES_AT].as_chunks::<PLACE_WORDS>();
     let places = places.get(..slot.record_count() as usize)?;
 
-    let (lines, _) = lines.as_chunks::<3>();
+    let (lines, _) = lines.as_chunks::<LINE_WORDS>();
     // A line ends where the next one starts, the last at the record count.
     let starts = lines.iter().map(|&[first, ..]| first as usize);
     let bounds: Vec<usize> = starts.chain([places.len()]).collect();

@@ -20,6 +20,13 @@ pub struct TextPlace {
 
 impl TextPlace {
     /// The place of this byte of a text, or of its end where there is no such byte.
+    ///
+    /// ```
+    /// use gelumbrio::TextPlace;
+    ///
+    /// let end = TextPlace { line: 1, column: 3, text: "食後".to_string() };
+    /// assert_eq!(TextPlace::of("食後".as_bytes(), 100), end);
+    /// ```
     pub fn of(text: &[u8], offset: usize) -> TextPlace {
         let (before, after) = text.split_at(offset.min(text.len()));
         let before = String::from_utf8_lossy(before).replace("\r\n", "\n");

@@ -4,9 +4,25 @@
 use std::error::Error;
 use std::fmt;
 
+use crate::layout::{RECORD_WORDS, SLOT_WORDS};
 use crate::leaflet::LeafletFault;
+use crate::limits::{MAX_RECORDS, MAX_SLOTS};
+
+/// The number of [`Refusal::Record`], and of [`Refusal::Ruby`].
+pub(crate) const RECORD: u32 = 8;
+/// The number of [`Refusal::Leaflet`].
+pub(crate) const LEAFLET: u32 = 17;
 
 /// A refusal, with its place where the table names one. A refused call changes no word.
+///
+/// ```
+/// use gelumbrio::{Clinic, Refusal, Sheet, SlotNumber};
+///
+/// let refusal = Sheet::new(1)?.read(Clinic(7), SlotNumber(1)).unwrap_err();
+/// assert_eq!((refusal, refusal.number()), (Refusal::Slot, 2));
+/// assert_eq!(refusal.to_string(), "the sheet has no slot of that number");
+/// # Ok::<(), Refusal>(())
+/// ```
 #[derive(Debug, Clone, Copy, PartialEq, Eq, Hash)]
 #[non_exhaustive]
 pub enum Refusal {
@@ -23,11 +39,11 @@ pub enum Refusal {
     NotInUse,
     /// 4: what the slot holds is damaged.
     ///
-    /// An edit and a giving back find a measure or indent out of limits, more than 256 records, records that
-    /// break a rule or are not in their classes' lists, or an in-use word above 1. Only a set-up mends these, and
-    /// it empties every slot of the sheet. A read finds such an in-use word and more than 256 lines, and
-    /// [`Sheet::lines`](crate::Sheet::lines) lines that do not share out the records. Any accepted edit mends
-    /// bad lines, even an empty one: it composes the whole slot.
+    /// An edit and a giving back find a measure or indent out of limits, more than [`MAX_RECORDS`] records,
+    /// records that break a rule or are not in their classes' lists, or an in-use word above 1. Only a set-up mends
+    /// these, and it empties every slot of the sheet. A read finds such an in-use word and more than
+    /// [`MAX_LINES`](crate::limits::MAX_LINES) lines, and [`Sheet::lines`](crate::Sheet::lines) lines that do not
+    /// share out the records. Any accepted edit mends bad lines, even an empty one: it composes the whole slot.
     Damaged,
     /// 5: the place or the deletion passes the end.
     PastEnd {
@@ -36,7 +52,7 @@ pub enum Refusal {
     },
     /// 6: the inserted words are not whole records.
     PartialRecord,
-    /// 7: more than 256 records would result.
+    /// 7: more than [`MAX_RECORDS`] records would result.
     TooManyRecords,
     /// 8: a record breaks its own rules.
     Record {
@@ -92,7 +108,7 @@ impl Refusal {
             5 => Refusal::PastEnd { count: place },
             6 => Refusal::PartialRecord,
             7 => Refusal::TooManyRecords,
-            8 => Refusal::Record { record: place },
+            RECORD => Refusal::Record { record: place },
             9 => Refusal::Group { record: place },
             10 => Refusal::NoBreaking { record: place },
             11 => Refusal::Limits { slot: place },
@@ -104,6 +120,13 @@ impl Refusal {
     }
 
     /// The number in document 01's table, or in the request that adds it.
+    ///
+    /// ```
+    /// use gelumbrio::Refusal;
+    ///
+    /// assert_eq!(Refusal::PastEnd { count: 12 }.number(), 5);
+    /// assert_eq!(Refusal::NotInUse.number(), 14);
+    /// ```
     pub fn number(self) -> u32 {
         match self {
             Refusal::Length => 1,
@@ -113,14 +136,14 @@ impl Refusal {
             Refusal::PastEnd { .. } => 5,
             Refusal::PartialRecord => 6,
             Refusal::TooManyRecords => 7,
-            Refusal::Record { .. } | Refusal::Ruby => 8,
+            Refusal::Record { .. } | Refusal::Ruby => RECORD,
             Refusal::Group { .. } => 9,
             Refusal::NoBreaking { .. } => 10,
             Refusal::Limits { .. } => 11,
             Refusal::NotListed { .. } => 12,
             Refusal::NoneFree => 13,
             Refusal::NotInUse => 14,
-            Refusal::Leaflet(_) => 17,
+            Refusal::Leaflet(_) => LEAFLET,
             Refusal::Unknown { number, .. } => number,
         }
     }
@@ -129,8 +152,10 @@ impl Refusal {
 impl fmt::Display for Refusal {
     fn fmt(&self, f: &mut fmt::Formatter<'_>) -> fmt::Result {
         match self {
-            Refusal::Length => f.write_str(
-                "the sheet is not 1 to 64 slots of 2,824 words, or a set-up list has not one number per slot",
+            Refusal::Length => write!(
+                f,
+                "the sheet is not 1 to {MAX_SLOTS} slots of {SLOT_WORDS} words, or a set-up does not have one \
+                 setting for each slot"
             ),
             Refusal::Slot => f.write_str("the sheet has no slot of that number"),
             Refusal::Caller => f.write_str("the slot does not belong to the calling clinic; clinic 0 has none"),
@@ -143,8 +168,10 @@ impl fmt::Display for Refusal {
             Refusal::PastEnd { count } => {
                 write!(f, "the edit reaches past the slot's end; it has {count} records")
             }
-            Refusal::PartialRecord => f.write_str("the inserted words are not whole records of 6 words"),
-            Refusal::TooManyRecords => f.write_str("the slot would have more than 256 records"),
+            Refusal::PartialRecord => {
+                write!(f, "the inserted words are not whole records of {RECORD_WORDS} words")
+            }
+            Refusal::TooManyRecords => write!(f, "the slot would have more than {MAX_RECORDS} records"),
             Refusal::Record { record } => write!(
                 f,
                 "record {record} has a code point, class, size, advance, group or ruby count out of limits"
@@ -177,4 +204,6 @@ impl fmt::Display for Refusal {
     }
 }
 
+// It has no source: a leaflet's fault is not what caused the refusal, it is told as the refusal itself, and would be
+// told twice.
 impl Error for Refusal {}

@@ -3,7 +3,7 @@
 mod common;
 
 use common::{edited, sheet, two_lines, CLINIC, SLOT};
-use gelumbrio::{Clinic, Found, Refusal, SlotNumber};
+use gelumbrio::{Clinic, Found, Record, Refusal, SlotNumber};
 
 #[test]
 fn a_leaflet_takes_the_place_of_what_stood_there() {
@@ -11,11 +11,11 @@ fn a_leaflet_takes_the_place_of_what_stood_there() {
     let text = "<ruby>頓服<rp>(</rp><rt>とんぷく</rt><rp>)</rp></ruby>、";
     assert_eq!(sheet.import(CLINIC, SLOT, 80, text), edited(1, 1));
     let group = |code_point| [code_point, 19, 80, 80, 1, 4];
-    let records = [group(0x9813), group(0x670D), [0x3001, 7, 80, 40, 0, 0]].concat();
+    let records = [group(0x9813), group(0x670D), [0x3001, 7, 80, 40, 0, 0]];
     assert_eq!(sheet.words()[3], 3);
-    assert_eq!(sheet.words()[8..][..18], records);
+    assert_eq!(sheet.words()[8..][..18], records.concat());
     let mut by_edit = two_lines();
-    assert_eq!(by_edit.edit(CLINIC, SLOT, 0, 6, &records), edited(1, 1));
+    assert_eq!(by_edit.edit(CLINIC, SLOT, .., &records.map(Record::from)), edited(1, 1));
     assert_eq!(sheet, by_edit);
 
     // Bytes will do, and an empty leaflet leaves nothing.

@@ -1,8 +1,19 @@
-//! The README's C snippet, compiled against the header, linked with the library and run.
+//! The README's snippets, each built by the README's own lines as a program of somebody else's, and run.
 
 use std::fs;
-use std::path::Path;
+use std::os::unix::fs::symlink;
+use std::path::{Path, PathBuf};
 use std::process::Command;
+
+/// The repository.
+fn root() -> PathBuf {
+    let package = Path::new(env!("CARGO_MANIFEST_DIR"));
+    package.ancestors().nth(2).expect("the package stands in host/ of the repository").to_path_buf()
+}
+
+fn readme() -> String {
+    fs::read_to_string(root().join("README.md")).expect("the README")
+}
 
 /// The first block of this language in a Markdown text.
 fn block<'a>(text: &'a str, language: &str) -> &'a str {
@@ -11,27 +22,34 @@ fn block<'a>(text: &'a str, language: &str) -> &'a str {
     &text[start..start + length]
 }
 
+/// An empty folder of this name.
+fn folder(name: &str) -> PathBuf {
+    let folder = Path::new(env!("CARGO_TARGET_TMPDIR")).join(name);
+    let _ = fs::remove_dir_all(&folder);
+    fs::create_dir_all(&folder).expect("a folder is made");
+    folder
+}
+
 #[test]
 fn the_c_snippet_compiles_and_runs() {
-    let package = Path::new(env!("CARGO_MANIFEST_DIR"));
-    let root = package.ancestors().nth(2).expect("the package stands in host/ of the repository");
-    let readme = fs::read_to_string(root.join("README.md")).expect("the README");
-    let folder = Path::new(env!("CARGO_TARGET_TMPDIR"));
-    let (source, program) = (folder.join("snippet.c"), folder.join("snippet"));
-    fs::write(&source, block(&readme, "c")).expect("the snippet is written");
+    let readme = readme();
+    let folder = folder("c");
+    symlink(root().join("include"), folder.join("include")).expect("the header is linked");
+    let library = folder.join("target/staticlib/libgelumbrio.a");
+    fs::create_dir_all(library.parent().expect("a folder")).expect("a folder is made");
+    symlink(env!("GELUMBRIO_LIBRARY"), library).expect("the library is linked");
+    fs::write(folder.join("program.c"), block(&readme, "c")).expect("the snippet is written");
 
+    let line = readme.lines().find_map(|line| line.strip_prefix("cc ")).expect("the line that compiles it");
     let compiled = Command::new("cc")
-        .args(["-std=c99", "-Wall", "-Wextra", "-Werror", "-I"])
-        .arg(root.join("include"))
-        .arg(&source)
-        .arg(env!("GELUMBRIO_LIBRARY"))
-        .arg("-o")
-        .arg(&program)
+        .args(line.split_whitespace())
+        .args(["-pedantic", "-Wall", "-Wextra", "-Werror"])
+        .current_dir(&folder)
         .status()
         .expect("a C compiler, `cc`, is on the PATH");
     assert!(compiled.success());
 
-    let ran = Command::new(&program).output().expect("the program runs");
+    let ran = Command::new(folder.join("program")).output().expect("the program runs");
     assert!(ran.status.success(), "{}", ran.status);
     let wrote = String::from_utf8(ran.stdout).expect("text");
     let expected = [
@@ -42,4 +60,28 @@ fn the_c_snippet_compiles_and_runs() {
         "given back: 0",
     ];
     assert_eq!(wrote.lines().collect::<Vec<_>>(), expected);
+}
+
+/// It is a doc-test too; here it is a program that depends on the crate.
+#[test]
+fn the_rust_snippet_builds_by_its_dependency() {
+    let readme = readme();
+    let folder = folder("rust");
+    fs::create_dir_all(folder.join("src")).expect("a folder is made");
+    fs::write(folder.join("src/main.rs"), block(&readme, "rust")).expect("the snippet is written");
+    let (beside, here) = ("\"../gelumbrio/", format!("\"{}/", root().display()));
+    assert!(block(&readme, "toml").contains(beside));
+    let dependencies = block(&readme, "toml").replace(beside, &here);
+    // The folder is inside another workspace.
+    let package = "[package]\nname = \"program\"\nedition = \"2021\"\n\n[workspace]\n";
+    fs::write(folder.join("Cargo.toml"), format!("{package}\n{dependencies}")).expect("it is written");
+
+    let ran = Command::new(env!("CARGO"))
+        .args(["run", "--offline", "--quiet"])
+        .current_dir(&folder)
+        .env("GELUMBRIO_STATICLIB", env!("GELUMBRIO_LIBRARY"))
+        .env("CARGO_TARGET_DIR", folder.join("target"))
+        .status()
+        .expect("cargo runs");
+    assert!(ran.success());
 }

@@ -2,10 +2,14 @@
 
 mod common;
 
-use common::{damaged, edited, refused, sheet, two_lines, CLINIC, K, SLOT};
-use gelumbrio::{class_of, in_list, ruby_place, Clinic, Kind, Line, Refusal, Sheet, SlotNumber, SLOT_WORDS};
+use std::error::Error;
 
-const FULL_STOP: [u32; 6] = [0x3002, 6, 80, 40, 0, 0];
+use common::{damaged, edited, refused, settings, sheet, two_lines, CLINIC, K, SLOT};
+use gelumbrio::layout::SLOT_WORDS;
+use gelumbrio::{
+    class_of, in_list, raw, ruby_place, Class, Clinic, Kind, Line, NoClass, Record, Refusal, Sheet,
+    SlotNumber,
+};
 
 #[test]
 fn a_sheet_has_1_to_64_slots() {
@@ -21,8 +25,9 @@ fn a_sheet_has_1_to_64_slots() {
 #[test]
 fn typed_lines() {
     let mut sheet = sheet(400);
-    let text = [K, K, K, K, K, FULL_STOP, K].concat();
-    assert_eq!(sheet.edit(CLINIC, SLOT, 0, 0, &text), edited(2, 2));
+    let full_stop = Record::new('。', 80).unwrap();
+    let text = [K, K, K, K, K, full_stop, K];
+    assert_eq!(sheet.edit(CLINIC, SLOT, .., &text), edited(2, 2));
     let expected = vec![
         Line { first_record: 0, end_x: 400, kind: Kind::Flush, xs: vec![0, 106, 213, 320] },
         Line { first_record: 4, end_x: 240, kind: Kind::Final, xs: vec![0, 80, 160] },
@@ -35,7 +40,7 @@ fn typed_lines() {
 #[test]
 fn words_can_be_kept_and_brought_back() {
     let mut sheet = sheet(100);
-    assert_eq!(sheet.edit(CLINIC, SLOT, 0, 0, &[K, K].concat()), edited(2, 2));
+    assert_eq!(sheet.edit(CLINIC, SLOT, .., &[K, K]), edited(2, 2));
     let kept = sheet.clone().into_words();
     let back = Sheet::from_words(kept).unwrap();
     assert_eq!(back, sheet);
@@ -45,11 +50,11 @@ fn words_can_be_kept_and_brought_back() {
 #[test]
 fn an_edit_says_how_many_lines_it_redid() {
     let mut sheet = sheet(440);
-    assert_eq!(sheet.edit(CLINIC, SLOT, 0, 0, &K.repeat(30)), edited(6, 6));
+    assert_eq!(sheet.edit(CLINIC, SLOT, .., &[K; 30]), edited(6, 6));
     // A small one has room on line 2, whose neighbour before it counts too.
-    assert_eq!(sheet.edit(CLINIC, SLOT, 12, 0, &[0x6F22, 19, 8, 8, 0, 0]), edited(6, 2));
-    assert_eq!(sheet.edit(CLINIC, SLOT, 31, 0, &K), edited(7, 3));
-    assert_eq!(sheet.edit(CLINIC, SLOT, 0, 32, &[]), edited(0, 0));
+    assert_eq!(sheet.edit(CLINIC, SLOT, 12..12, &[Record { size: 8, advance: 8, ..K }]), edited(6, 2));
+    assert_eq!(sheet.edit(CLINIC, SLOT, 31.., &[K]), edited(7, 3));
+    assert_eq!(sheet.edit(CLINIC, SLOT, .., &[]), edited(0, 0));
 }
 
 #[test]
@@ -74,7 +79,7 @@ fn damaged_lines_are_mended_by_any_accepted_edit() {
     ] {
         let mut sheet = damaged(&sound, at, word);
         assert_eq!(sheet.lines(CLINIC, SLOT), Err(Refusal::Damaged), "word {at} = {word}");
-        assert_eq!(sheet.edit(CLINIC, SLOT, 0, 0, &[]), edited(2, 1), "word {at} = {word}");
+        assert_eq!(sheet.edit(CLINIC, SLOT, 0..0, &[]), edited(2, 1), "word {at} = {word}");
         assert_eq!(sheet, sound, "word {at} = {word}");
     }
 }
@@ -85,7 +90,7 @@ fn lines_are_held_against_the_record_count() {
     for (count, lines) in [(0, 0), (5, 1)] {
         let mut sheet = damaged(&two_lines(), 3, count);
         assert_eq!(sheet.lines(CLINIC, SLOT), Err(Refusal::Damaged), "{count} records");
-        assert_eq!(sheet.edit(CLINIC, SLOT, 0, 0, &[]), edited(lines, lines));
+        assert_eq!(sheet.edit(CLINIC, SLOT, 0..0, &[]), edited(lines, lines));
         assert_eq!(sheet.lines(CLINIC, SLOT).map(|typed| typed.len()), Ok(lines as usize));
     }
 }
@@ -97,10 +102,11 @@ fn damaged_settings_and_records_need_a_set_up() {
     // together.
     for (at, word) in [(1, 7), (2, 440), (3, 300), (5, 2), (9, 17), (8, 0x3001), (9, 15)] {
         let mut sheet = damaged(&sound, at, word);
-        assert_eq!(sheet.edit(CLINIC, SLOT, 0, 0, &[]), Err(Refusal::Damaged), "word {at} = {word}");
+        assert_eq!(sheet.edit(CLINIC, SLOT, 0..0, &[]), Err(Refusal::Damaged), "word {at} = {word}");
+        assert_eq!(sheet.edit(CLINIC, SLOT, .., &[]), Err(Refusal::Damaged), "word {at} = {word}");
         assert_eq!(sheet.give_back(CLINIC, SLOT), Err(Refusal::Damaged), "word {at} = {word}");
         assert_eq!(sheet.lines(CLINIC, SLOT).is_err(), [3, 5].contains(&at), "word {at} = {word}");
-        assert_eq!(sheet.set_up(&[CLINIC, Clinic(9)], &[440, 800], &[0, 0]), Ok(()));
+        assert_eq!(sheet.set_up(&[settings(CLINIC, 440), settings(Clinic(9), 800)]), Ok(()));
         assert_eq!(sheet.take(CLINIC), Ok(SLOT));
         assert_eq!(sheet.lines(CLINIC, SLOT), Ok(vec![]));
     }
@@ -117,22 +123,23 @@ fn what_lines_does_not_judge_is_handed_back_as_stored() {
 #[test]
 fn refusals_by_number() {
     let mut sheet = sheet(400);
-    refused(sheet.set_up(&[CLINIC], &[400], &[0]), 1, Refusal::Length);
-    refused(sheet.edit(CLINIC, SlotNumber(2), 0, 0, &[]), 2, Refusal::Slot);
-    refused(sheet.edit(Clinic(9), SLOT, 0, 0, &[]), 3, Refusal::Caller);
-    refused(damaged(&sheet, 1, 7).edit(CLINIC, SLOT, 0, 0, &[]), 4, Refusal::Damaged);
-    refused(sheet.edit(CLINIC, SLOT, 1, 0, &[]), 5, Refusal::PastEnd { count: 0 });
-    refused(sheet.edit(CLINIC, SLOT, 0, 0, &[0; 5]), 6, Refusal::PartialRecord);
-    refused(sheet.edit(CLINIC, SLOT, 0, 0, &K.repeat(257)), 7, Refusal::TooManyRecords);
-    let bad_record = [K, [0; 6]].concat();
-    refused(sheet.edit(CLINIC, SLOT, 0, 0, &bad_record), 8, Refusal::Record { record: 1 });
-    let comma_as_19 = [K, K, [0x3001, 19, 80, 80, 0, 0]].concat();
-    refused(sheet.edit(CLINIC, SLOT, 0, 0, &comma_as_19), 12, Refusal::NotListed { record: 2 });
-    let long_group = [0x6F22, 19, 80, 80, 1, 1].repeat(17);
-    refused(sheet.edit(CLINIC, SLOT, 0, 0, &long_group), 9, Refusal::Group { record: 16 });
-    let wide = [K, [0x6F22, 19, 408, 408, 0, 0]].concat();
-    refused(sheet.edit(CLINIC, SLOT, 0, 0, &wide), 10, Refusal::NoBreaking { record: 1 });
-    let limits = sheet.set_up(&[CLINIC, CLINIC], &[400, 7], &[0, 0]);
+    refused(sheet.set_up(&[settings(CLINIC, 400)]), 1, Refusal::Length);
+    refused(sheet.set_up_words(&[7, 9], &[400, 800], &[0]), 1, Refusal::Length);
+    refused(sheet.edit(CLINIC, SlotNumber(2), .., &[]), 2, Refusal::Slot);
+    refused(sheet.edit(Clinic(9), SLOT, .., &[]), 3, Refusal::Caller);
+    refused(damaged(&sheet, 1, 7).edit(CLINIC, SLOT, .., &[]), 4, Refusal::Damaged);
+    refused(sheet.edit(CLINIC, SLOT, 1.., &[]), 5, Refusal::PastEnd { count: 0 });
+    refused(sheet.edit_words(CLINIC, SLOT, 0, 0, &[0; 5]), 6, Refusal::PartialRecord);
+    refused(sheet.edit(CLINIC, SLOT, .., &[K; 257]), 7, Refusal::TooManyRecords);
+    let bad_record = [K, Record::from([0; 6])];
+    refused(sheet.edit(CLINIC, SLOT, .., &bad_record), 8, Refusal::Record { record: 1 });
+    let comma_as_19 = [K, K, Record::of_class('、', Class::Ideographic, 80)];
+    refused(sheet.edit(CLINIC, SLOT, .., &comma_as_19), 12, Refusal::NotListed { record: 2 });
+    let long_group = [K.in_group(1, 1); 17];
+    refused(sheet.edit(CLINIC, SLOT, .., &long_group), 9, Refusal::Group { record: 16 });
+    let wide = [K, Record { size: 408, advance: 408, ..K }];
+    refused(sheet.edit(CLINIC, SLOT, .., &wide), 10, Refusal::NoBreaking { record: 1 });
+    let limits = sheet.set_up(&[settings(CLINIC, 400), settings(CLINIC, 7)]);
     refused(limits, 11, Refusal::Limits { slot: 1 });
 
     refused(sheet.import(CLINIC, SlotNumber(2), 80, ""), 2, Refusal::Slot);
@@ -163,26 +170,73 @@ fn a_refusal_says_why() {
     assert_eq!(Refusal::NotInUse.to_string(), "the slot is not in use; its clinic must take it first");
     let told = Refusal::NotListed { record: 4 }.to_string();
     assert!(told.starts_with("record 4's character is not in the published list of its class"), "{told}");
-    let error: Box<dyn std::error::Error> = Box::new(Refusal::PastEnd { count: 12 });
-    assert_eq!(error.to_string(), "the edit reaches past the slot's end; it has 12 records");
+    assert_eq!(
+        Refusal::Length.to_string(),
+        "the sheet is not 1 to 64 slots of 2824 words, or a set-up does not have one setting for each slot"
+    );
+}
+
+/// A chain of errors tells each once.
+#[test]
+fn what_went_wrong_is_an_error() {
+    let Err(refusal @ Refusal::Leaflet(fault)) = sheet(400).import(CLINIC, SLOT, 80, "（") else {
+        panic!("a full-width bracket is in no list")
+    };
+    let errors: [Box<dyn Error>; 3] =
+        [Box::new(refusal), Box::new(fault), Box::new(NoClass { character: '（' })];
+    assert_eq!(errors[0].to_string(), errors[1].to_string());
+    assert!(errors.iter().all(|error| error.source().is_none()));
 }
 
 #[test]
 fn lists() {
     // A character of two lists, one of class 19 alone, the full-width form that no list has.
-    assert_eq!([1, 19, 27].map(|class| in_list(class, '(')), [true, false, true]);
-    assert_eq!([15, 19, 27].map(|class| in_list(class, '漢')), [false, true, false]);
-    assert!((0..100).chain([u32::MAX]).all(|class| !in_list(class, '（')));
-    assert_eq!(['(', '漢', '𠮷', '、', '（'].map(class_of), [Some(27), Some(19), Some(19), Some(7), None]);
+    use Class::{Comma, Hiragana, Ideographic, OpeningBracket, Western};
+    assert_eq!([OpeningBracket, Ideographic, Western].map(|class| in_list(class, '(')), [true, false, true]);
+    assert_eq!([Hiragana, Ideographic, Western].map(|class| in_list(class, '漢')), [false, true, false]);
+    assert!(Class::ALL.into_iter().all(|class| !in_list(class, '（')));
+    let classes = ['(', '漢', '𠮷', '、', '（'].map(class_of);
+    assert_eq!(classes, [Some(Western), Some(Ideographic), Some(Ideographic), Some(Comma), None]);
+}
+
+/// A number has a list where it is a class's, and then the class has a name.
+#[test]
+fn the_classes_are_those_that_have_lists() {
+    for number in (0..100).chain([u32::MAX]) {
+        let has_list = (0..0x3_0000).any(|code_point| raw::in_list(number, code_point) == 1);
+        assert_eq!(Class::from_number(number).map(Class::number), has_list.then_some(number));
+    }
+}
+
+/// Every character that has a class, alone in a leaflet.
+#[test]
+fn a_new_record_is_the_one_that_an_import_makes() {
+    let mut sheet = sheet(400);
+    let mut classes = Vec::new();
+    let mut text = [0; 4];
+    for character in '\0'..=char::MAX {
+        let Ok(record) = Record::new(character, 80) else {
+            assert_eq!(raw::class_of(character.into()), 0, "{character:?}");
+            continue;
+        };
+        classes.push(record.class);
+        // By themselves these stand in no leaflet.
+        if !matches!(character, '<' | '>' | '&') {
+            sheet.import(CLINIC, SLOT, 80, character.encode_utf8(&mut text)).unwrap();
+            assert!(sheet.slot(SLOT).unwrap().records().eq([record]), "{character:?}");
+        }
+    }
+    classes.sort();
+    classes.dedup();
+    assert_eq!(classes, Class::ALL.map(Class::number));
 }
 
 /// Four records under nine ruby characters, which are 40 wider, between two others; then a single one under three.
 #[test]
 fn a_group_starts_and_ends_with_its_ruby() {
     let mut sheet = sheet(520);
-    let grouped = |group, ruby_count| [0x6F22, 19, 80, 80, group, ruby_count];
-    let text = [&K[..], &grouped(1, 9).repeat(4), &K, &grouped(2, 3)].concat();
-    assert_eq!(sheet.edit(CLINIC, SLOT, 0, 0, &text), edited(2, 2));
+    let text = [&[K][..], &[K.in_group(1, 9); 4], &[K, K.in_group(2, 3)]].concat();
+    assert_eq!(sheet.edit(CLINIC, SLOT, .., &text), edited(2, 2));
     let lines = sheet.lines(CLINIC, SLOT).unwrap();
     assert_eq!((lines[0].xs.as_slice(), lines[0].end_x), (&[0, 80, 173, 266, 360, 440][..], 520));
     assert_eq!((lines[1].xs.as_slice(), lines[1].end_x), (&[20][..], 120));

@@ -77,7 +77,9 @@ pub fn edit(mut arguments: Arguments) -> Result<Done, Failure> {
     let stretch = Stretch { at: at as usize, deleted: deleted as usize };
 
     let mut sheet = old.clone();
-    let edited = sheet.edit(clinic, slot, at, deleted, &scratch::words(&inserted)).map_err(|refusal| {
+    // An end past the last number is past the slot's end too.
+    let replaced = at..at.saturating_add(deleted);
+    let edited = sheet.edit(clinic, slot, replaced, &inserted).map_err(|refusal| {
         let records = spliced(&stored, &stretch, &inserted);
         let count = records.len() - inserted.len() + reading.letters.len();
         let change = Change { leaflet: leaflet.as_ref(), reading, size, at: stretch.at, records, count };

@@ -1,5 +1,6 @@
 //! `compose`: a leaflet's lines.
 
+use gelumbrio::limits::MEASURES;
 use gelumbrio::{Refusal, Sheet, SlotNumber};
 
 use super::show::Forms;
@@ -85,7 +86,7 @@ const MEASURE: &str = "A measure is 8 to 1,000,000 units.";
 
 /// Why no line has this measure and this indent, and which a line has.
 pub fn no_line(measure: u32, indent: u32) -> (String, &'static str) {
-    match scratch::MEASURES.contains(&measure) {
+    match MEASURES.contains(&measure) {
         false if measure == u32::MAX => ("so long a line cannot be set".to_string(), MEASURE),
         false => (format!("a line of {measure} units cannot be set"), MEASURE),
         true => (

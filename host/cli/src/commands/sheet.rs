@@ -2,12 +2,13 @@
 
 use std::ffi::OsStr;
 
-use gelumbrio::{Clinic, Refusal, Sheet, Slot, SlotNumber, MAX_SLOTS};
+use gelumbrio::limits::{MAX_CLINIC, MAX_SLOTS};
+use gelumbrio::{Clinic, Refusal, Sheet, Slot, SlotNumber, SlotSettings};
 
 use super::compose::{no_line, size};
 use super::Done;
 use crate::arguments::{number, Arguments, Grammar, Length};
-use crate::check::{state, State, HIGHEST_CLINIC, MENDING};
+use crate::check::{state, State, MENDING};
 use crate::failure::Failure;
 use crate::refusals::{composing, counted};
 use crate::sheet_file;
@@ -24,21 +25,12 @@ pub const NEW: Grammar = Grammar {
 pub const CHECK: Grammar =
     Grammar { command: "sheet check", once: &[], often: &[], flags: &[], operands: &["FILE"], optional: 0 };
 
-/// What a slot is set up with.
-struct Setting {
-    clinic: u32,
-    measure: u32,
-    indent: u32,
-}
-
-impl Setting {
-    /// From `7:22:1`, clinic, characters a line and indent.
-    fn parse(text: &OsStr, size: u32) -> Option<Setting> {
-        let fields: Vec<&str> = text.to_str()?.split(':').collect();
-        let &[clinic, measure, indent] = fields.as_slice() else { return None };
-        let units = |text| Length::parse(text, Length::Characters).map(|length| length.units(size));
-        Some(Setting { clinic: number(clinic)?, measure: units(measure)?, indent: units(indent)? })
-    }
+/// What a slot is set up with, from `7:22:1`: clinic, characters a line and indent.
+fn setting(text: &OsStr, size: u32) -> Option<SlotSettings> {
+    let fields: Vec<&str> = text.to_str()?.split(':').collect();
+    let &[clinic, measure, indent] = fields.as_slice() else { return None };
+    let units = |text| Length::parse(text, Length::Characters).map(|length| length.units(size));
+    Some(SlotSettings { clinic: Clinic(number(clinic)?), measure: units(measure)?, indent: units(indent)? })
 }
 
 /// Makes a sheet in a new file.
@@ -46,7 +38,7 @@ pub fn new(mut arguments: Arguments) -> Result<Done, Failure> {
     let size = size(&arguments)?;
     let mut settings = Vec::new();
     for text in arguments.all("slot") {
-        settings.push(Setting::parse(text, size).ok_or_else(|| {
+        settings.push(setting(text, size).ok_or_else(|| {
             arguments.wrong(format!(
                 "--slot {} is no slot; 7:22:1 is one of clinic 7, with 22 characters a line and an indent of 1",
                 text.display()
@@ -59,18 +51,15 @@ pub fn new(mut arguments: Arguments) -> Result<Done, Failure> {
     let sheet = set_up(&settings)?;
     let file = arguments.file();
     sheet_file::create(&file, &sheet)?;
-    let listed = settings
-        .iter()
-        .enumerate()
-        .map(|(slot, setting)| listed(&sheet, slot, if setting.clinic == 0 { "nobody's" } else { "free" }));
+    let listed = settings.iter().enumerate().map(|(slot, setting)| {
+        listed(&sheet, slot, if setting.clinic == Clinic(0) { "nobody's" } else { "free" })
+    });
     Ok(Done::changing(listed.collect()))
 }
 
-fn set_up(settings: &[Setting]) -> Result<Sheet, Failure> {
-    let list = |field: fn(&Setting) -> u32| settings.iter().map(field).collect::<Vec<_>>();
-    let clinics: Vec<Clinic> = settings.iter().map(|setting| Clinic(setting.clinic)).collect();
+fn set_up(settings: &[SlotSettings]) -> Result<Sheet, Failure> {
     let set_up = Sheet::new(settings.len()).and_then(|mut sheet| {
-        sheet.set_up(&clinics, &list(|setting| setting.measure), &list(|setting| setting.indent))?;
+        sheet.set_up(settings)?;
         Ok(sheet)
     });
     set_up.map_err(|refusal| match refusal {
@@ -82,13 +71,13 @@ fn set_up(settings: &[Setting]) -> Result<Sheet, Failure> {
     })
 }
 
-fn out_of_limits(slot: u32, setting: &Setting) -> Failure {
-    let (what, advice) = match setting.clinic > HIGHEST_CLINIC {
-        true => (
-            format!("there is no clinic {}", setting.clinic),
-            "Clinics are 1 to 65,535; 0 leaves a slot to nobody.",
-        ),
-        false => no_line(setting.measure, setting.indent),
+fn out_of_limits(slot: u32, setting: &SlotSettings) -> Failure {
+    let &SlotSettings { clinic: Clinic(clinic), measure, indent } = setting;
+    let (what, advice) = match clinic > MAX_CLINIC {
+        true => {
+            (format!("there is no clinic {clinic}"), "Clinics are 1 to 65,535; 0 leaves a slot to nobody.")
+        }
+        false => no_line(measure, indent),
     };
     Failure::numbered(11, format!("slot {slot}: {what}")).advising(advice)
 }

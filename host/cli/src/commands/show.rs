@@ -101,7 +101,7 @@ pub fn run(mut arguments: Arguments) -> Result<Done, Failure> {
 fn composed(call: Call<'_>) -> Result<(Sheet, Vec<String>), Failure> {
     let Call { file, sheet, clinic, slot } = call;
     let mut composed = sheet.clone();
-    composed.edit(clinic, slot, 0, 0, &[]).map_err(|refusal| call.refused(refusal))?;
+    composed.edit(clinic, slot, 0..0, &[]).map_err(|refusal| call.refused(refusal))?;
     if composed == *sheet {
         return Ok((composed, Vec::new()));
     }

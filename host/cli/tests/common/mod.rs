@@ -185,7 +185,7 @@ pub fn text(sheet: &Sheet, slot: u32) -> String {
 /// A sheet as `Folder::with_sheet` makes it, by the library.
 pub fn ward() -> Sheet {
     let mut sheet = Sheet::new(2).unwrap();
-    sheet.set_up(&[Clinic(7), Clinic(9)], &[1760, 2400], &[80, 0]).unwrap();
+    sheet.set_up_words(&[7, 9], &[1760, 2400], &[80, 0]).unwrap();
     assert_eq!(sheet.take(Clinic(7)), Ok(SlotNumber(0)));
     sheet
 }

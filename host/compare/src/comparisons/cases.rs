@@ -12,9 +12,10 @@ use crate::failure::Failure;
 use crate::layout::{record_words, SLOT};
 use crate::one_slot::OneSlot;
 use crate::program::{answer, Answered, Program};
-use crate::run::{run, same_answer, same_words};
+use crate::run::run;
+use crate::same::{same_answer, same_words};
+use crate::scope::Scope;
 use crate::tally::{Outcome, Tally};
-use crate::Scope;
 
 const TEST: &str = "cases";
 const CLINIC: u32 = 7;

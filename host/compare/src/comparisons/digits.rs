@@ -11,8 +11,8 @@ use crate::layout::{RECORDS, SLOT};
 use crate::one_slot::OneSlot;
 use crate::program::Program;
 use crate::run::run;
+use crate::scope::Scope;
 use crate::tally::Tally;
-use crate::Scope;
 
 const TEST: &str = "digits";
 const SIZE: u32 = 8;

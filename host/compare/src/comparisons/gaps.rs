@@ -17,8 +17,8 @@ use crate::generate::plain;
 use crate::layout::{CLASSES, LARGEST_MEASURE};
 use crate::one_slot::OneSlot;
 use crate::program::Program;
+use crate::scope::Scope;
 use crate::tally::{Outcome, Tally, Way};
-use crate::Scope;
 
 const TEST: &str = "gaps";
 const MOST_RECORDS: usize = 256;

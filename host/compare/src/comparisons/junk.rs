@@ -7,9 +7,9 @@ use crate::layout::{IN_USE, SLOT};
 use crate::program::Program;
 use crate::random::{seeds, Random};
 use crate::run::run;
+use crate::scope::Scope;
 use crate::tally::Tally;
 use crate::texts;
-use crate::Scope;
 
 const TEST: &str = "junk";
 

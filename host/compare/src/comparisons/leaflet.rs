@@ -11,9 +11,9 @@ use crate::layout::CLASSES;
 use crate::one_slot::OneSlot;
 use crate::program::Program;
 use crate::random::{seeds, Random};
+use crate::scope::Scope;
 use crate::tally::Tally;
 use crate::texts::{self, AFTERCARE, BYTES, DOSE, TAGS};
-use crate::Scope;
 
 const TEST: &str = "leaflet";
 const SIZE: u32 = 8;

@@ -6,9 +6,9 @@ use crate::generate::{plain, usual, usual_advance, EDGES};
 use crate::layout::{CLASSES, IN_USE, RECORDS, SLOT};
 use crate::program::Program;
 use crate::run::run;
+use crate::scope::Scope;
 use crate::tally::Tally;
 use crate::texts::DOSE;
-use crate::Scope;
 
 const TEST: &str = "limits";
 const BIG: u32 = u32::MAX;

@@ -11,9 +11,10 @@ use crate::generate::{all_texts, annex_a, plain, usual};
 use crate::layout::{CLASSES, RECORDS, SLOT};
 use crate::one_slot::OneSlot;
 use crate::program::{Program, Second, SECOND};
-use crate::run::{run, same_answer};
+use crate::run::run;
+use crate::same::same_answer;
+use crate::scope::Scope;
 use crate::tally::{Outcome, Tally};
-use crate::Scope;
 
 const TEST: &str = "lists";
 const CLINIC: u32 = 7;

@@ -17,8 +17,8 @@ pub mod slots;
 
 use crate::failure::Failure;
 use crate::program::Program;
+use crate::scope::Scope;
 use crate::tally::Tally;
-use crate::Scope;
 
 /// A comparison.
 pub type Comparison = fn(&dyn Program, Scope) -> Result<Tally, Failure>;

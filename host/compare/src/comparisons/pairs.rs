@@ -9,8 +9,8 @@ use crate::generate::{another, plain, usual, usual_advance};
 use crate::layout::CLASSES;
 use crate::one_slot::OneSlot;
 use crate::program::Program;
+use crate::scope::Scope;
 use crate::tally::Tally;
-use crate::Scope;
 
 const TEST: &str = "pairs";
 

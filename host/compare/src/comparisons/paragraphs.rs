@@ -5,8 +5,8 @@ use crate::generate::{spoil, Style};
 use crate::one_slot::OneSlot;
 use crate::program::Program;
 use crate::random::{seeds, Random};
+use crate::scope::Scope;
 use crate::tally::Tally;
-use crate::Scope;
 
 const TEST: &str = "paragraphs";
 

@@ -10,8 +10,8 @@ use crate::one_slot::OneSlot;
 use crate::program::Program;
 use crate::random::{seeds, Random};
 use crate::run::run;
+use crate::scope::Scope;
 use crate::tally::Tally;
-use crate::Scope;
 
 const TEST: &str = "redone";
 const CLINIC: u32 = 7;

@@ -10,9 +10,10 @@ use crate::layout::SLOT;
 use crate::one_slot::OneSlot;
 use crate::program::{Program, Second, SECOND};
 use crate::rows::{set_base_rows, Row};
-use crate::run::{run, same_answer};
+use crate::run::run;
+use crate::same::same_answer;
+use crate::scope::Scope;
 use crate::tally::{Outcome, Tally, Way};
-use crate::Scope;
 
 const TEST: &str = "ruby";
 const SIZES: [u32; 12] = [0, 4, 7, 8, 12, 16, 80, 88, 3_992, 4_000, 4_008, u32::MAX];

@@ -9,8 +9,8 @@ use crate::layout::SLOT;
 use crate::program::Program;
 use crate::random::{seeds, Random};
 use crate::run::Run;
+use crate::scope::Scope;
 use crate::tally::Tally;
-use crate::Scope;
 
 const TEST: &str = "sequences";
 

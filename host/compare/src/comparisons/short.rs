@@ -7,8 +7,8 @@ use crate::generate::{all_texts, plain};
 use crate::layout::{CLASSES, LINES};
 use crate::one_slot::OneSlot;
 use crate::program::Program;
+use crate::scope::Scope;
 use crate::tally::Tally;
-use crate::Scope;
 
 const TEST: &str = "short";
 const SIZE: u32 = 8;

@@ -7,10 +7,11 @@ use crate::failure::Failure;
 use crate::generate::plain;
 use crate::layout::{IN_USE, RECORDS, SLOT};
 use crate::program::{answer, Answered, Program};
-use crate::run::{run, same_answer, same_words};
+use crate::run::run;
+use crate::same::{same_answer, same_words};
+use crate::scope::Scope;
 use crate::tally::Tally;
 use crate::texts::DOSE;
-use crate::Scope;
 
 const TEST: &str = "slots";
 const CLINICS: [u32; 3] = [0, 7, 9];

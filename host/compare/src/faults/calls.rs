@@ -5,8 +5,9 @@ use std::ops::Range;
 use second::sheet::record_count;
 use second::{Answer, Edit, EditAnswer, Import, ImportAnswer, RubyPlace};
 
+use super::edits;
+use super::fault::Fault;
 use super::slots::{keep_all_but_heads, keep_texts, whole_slots};
-use super::{edits, Fault};
 use crate::layout::{slot_words, LINES, SLOT};
 use crate::program::{Program, Second, SECOND};
 

@@ -8,7 +8,7 @@ use second::records::{decode_all, Class};
 use second::spacing::{space, Space};
 use second::units::{units, Unit};
 
-use super::{Fault, FIELDS};
+use super::fault::{Fault, FIELDS};
 use crate::layout::{LINES, PLACES, RECORDS};
 
 /// Sets every line of a slot that an edit has just composed.

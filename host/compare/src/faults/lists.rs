@@ -3,7 +3,7 @@
 use second::lists::{in_list, usual, BLOCKS, COMPATIBILITY, LISTS};
 use second::{Edit, EditAnswer};
 
-use super::edits::with_texts_as;
+use super::altered::with_texts_as;
 use super::slots::stored_records;
 use crate::calls::Words;
 use crate::program::{Program, Second};

@@ -6,7 +6,7 @@ use std::ops::Range;
 use second::sheet::record_count;
 use second::{Answer, Edit, EditAnswer, Import, ImportAnswer};
 
-use super::edits::with_head_word;
+use super::altered::with_head_word;
 use super::in_use::{Misuse, On};
 use super::slots::{slot_words_mut, whole_slots};
 use crate::layout::{slot_words, IN_USE, LINES, PLACES, RECORDS, SLOT};

@@ -3,16 +3,29 @@
 // Each test file uses a part of these.
 #![allow(dead_code)]
 
-use gelumbrio::{Clinic, Edited, Refusal, Sheet, SlotNumber};
+use gelumbrio::{Class, Clinic, Edited, Record, Refusal, Sheet, SlotNumber, SlotSettings};
 
 pub const CLINIC: Clinic = Clinic(7);
 pub const SLOT: SlotNumber = SlotNumber(0);
-pub const K: [u32; 6] = [0x6F22, 19, 80, 80, 0, 0];
+/// An ideograph of size 80.
+pub const K: Record = Record {
+    code_point: 0x6F22,
+    class: Class::Ideographic.number(),
+    size: 80,
+    advance: 80,
+    group: 0,
+    ruby_count: 0,
+};
+
+/// A slot of this clinic and measure, without an indent.
+pub fn settings(clinic: Clinic, measure: u32) -> SlotSettings {
+    SlotSettings { clinic, measure, indent: 0 }
+}
 
 /// A sheet of two slots, both taken.
 pub fn sheet(measure: u32) -> Sheet {
     let mut sheet = Sheet::new(2).unwrap();
-    sheet.set_up(&[CLINIC, Clinic(9)], &[measure, 800], &[0, 0]).unwrap();
+    sheet.set_up(&[settings(CLINIC, measure), settings(Clinic(9), 800)]).unwrap();
     assert_eq!(sheet.take(CLINIC), Ok(SLOT));
     assert_eq!(sheet.take(Clinic(9)), Ok(SlotNumber(1)));
     sheet
@@ -26,7 +39,7 @@ pub fn edited(lines: u32, redone: u32) -> Result<Edited, Refusal> {
 /// Six ideographs on two lines: line words 0, 440, 1 and 5, 80, 3.
 pub fn two_lines() -> Sheet {
     let mut sheet = sheet(440);
-    assert_eq!(sheet.edit(CLINIC, SLOT, 0, 0, &[K; 6].concat()), edited(2, 2));
+    assert_eq!(sheet.edit(CLINIC, SLOT, .., &[K; 6]), edited(2, 2));
     sheet
 }
 

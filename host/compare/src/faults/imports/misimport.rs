@@ -1,14 +1,4 @@
-//! Imports with a fault (document 02, request 05): texts misread by a reader of another shape than the second
-//! program's, records made wrongly of a text read rightly, or a wrong edit made with them.
-
-use second::sheet::record_count;
-use second::{Edit, Import, ImportAnswer};
-
-use super::reader::Reader;
-use super::slots::slot_words_mut;
-use crate::calls::Words;
-use crate::layout::slot_words;
-use crate::program::{Program, Second};
+//! The faults of an import, by name and by what they are of.
 
 /// A wrong import.
 #[derive(Debug, Clone, Copy, PartialEq, Eq)]
@@ -132,8 +122,8 @@ pub enum Misimport {
     ReportsNone,
 }
 
-/// All of them.
-pub const MISIMPORTS: [Misimport; 55] = [
+/// Of ruby elements: which are let in, and where an open one is at fault.
+pub const IN_ELEMENTS: [Misimport; 14] = [
     Misimport::RpBeforeOnly,
     Misimport::RpAfterOnly,
     Misimport::EmptyRpRefused,
@@ -148,6 +138,10 @@ pub const MISIMPORTS: [Misimport; 55] = [
     Misimport::Nested,
     Misimport::OpenAtEnd,
     Misimport::OpenNamesStart,
+];
+
+/// Of tags, and of `<`, `>` and `&` where they are of none.
+pub const IN_TAGS: [Misimport; 7] = [
     Misimport::UpperCase,
     Misimport::Attributes,
     Misimport::LoneBracket,
@@ -155,12 +149,20 @@ pub const MISIMPORTS: [Misimport; 55] = [
     Misimport::Ampersand,
     Misimport::TagOneLate,
     Misimport::TagCutAtEnd,
+];
+
+/// Of bytes that are no UTF-8, or that need not be there.
+pub const IN_BYTES: [Misimport; 6] = [
     Misimport::Surrogates,
     Misimport::Overlong,
     Misimport::PastLast,
     Misimport::IllFormedOneLate,
     Misimport::CutAtEnd,
     Misimport::MarkSkipped,
+];
+
+/// Of the records that are made of a text.
+pub const IN_RECORDS: [Misimport; 16] = [
     Misimport::UnlistedLeftOut,
     Misimport::UnlistedInRt,
     Misimport::LowestFirst,
@@ -177,21 +179,9 @@ pub const MISIMPORTS: [Misimport; 55] = [
     Misimport::ShortRubyCount,
     Misimport::CutAt256,
     Misimport::SizeRounded,
-    Misimport::AfterCaller,
-    Misimport::AfterStored,
-    Misimport::AfterCount,
-    Misimport::FaultEmpties,
-    Misimport::FaultReports,
-    Misimport::PlaceInCharacters,
-    Misimport::PlaceIsLength,
-    Misimport::ShortPlace,
-    Misimport::DeletesNothing,
-    Misimport::Appends,
-    Misimport::DeletesLines,
-    Misimport::ReportsNone,
 ];
 
-/// Those of a text that is read rightly.
+/// Of a text that is read rightly, and then answered or put in wrongly.
 pub const IMPORTED_WRONGLY: [Misimport; 11] = [
     Misimport::AfterCaller,
     Misimport::AfterStored,
@@ -206,99 +196,9 @@ pub const IMPORTED_WRONGLY: [Misimport; 11] = [
     Misimport::ReportsNone,
 ];
 
-impl Misimport {
-    /// The import with this fault.
-    pub fn import(self, sheet: &mut [u32], import: Import<'_>) -> ImportAnswer {
-        match Reader::read(self, import.text) {
-            Ok(characters) => self.edit(sheet, import, &characters),
-            Err(at) => self.text_fault(sheet, import, at),
-        }
-    }
+/// Of the place of a fault that is found rightly, where the text before it is long.
+pub const IN_LONG_TEXTS: [Misimport; 1] = [Misimport::ShortPlace];
 
-    /// The edit with the records of these characters.
-    fn edit(self, sheet: &mut [u32], import: Import<'_>, characters: &[Character]) -> ImportAnswer {
-        let size = if self == Misimport::SizeRounded { import.size & !7 } else { import.size };
-        let mut records: Vec<Words> =
-            characters.iter().map(|character| self.record(character, size)).collect();
-        if self == Misimport::CutAt256 {
-            records.truncate(256);
-        }
-        let count = record_count(sheet, import.slot).unwrap_or(0);
-        let lines = slot_words(sheet, import.slot).map_or(0, |slot| slot[4]);
-        let (place, deleted) = match self {
-            Misimport::DeletesNothing => (0, 0),
-            Misimport::Appends => (count, 0),
-            Misimport::DeletesLines => (0, lines),
-            _ => (0, count),
-        };
-        let Import { caller, slot, .. } = import;
-        let inserted = records.concat();
-        let answer = Second.edit(sheet, Edit { caller, slot, place, deleted, inserted: &inserted });
-        let redone = if self == Misimport::ReportsNone { 0 } else { answer.redone };
-        ImportAnswer { redone, ..answer.into() }
-    }
-
-    fn record(self, character: &Character, size: u32) -> Words {
-        let &Character { code_point, class, group, ruby_count } = character;
-        let is_half = match class {
-            1 | 2 | 5 | 6 => true,
-            7 => self != Misimport::CommaWhole,
-            3 => self != Misimport::HyphenWhole,
-            27 => self != Misimport::WesternWhole,
-            _ => false,
-        };
-        [code_point, class, size, if is_half { size / 2 } else { size }, group, ruby_count]
-    }
-
-    /// What is answered to a text with this fault.
-    fn text_fault(self, sheet: &mut [u32], import: Import<'_>, at: usize) -> ImportAnswer {
-        let slot = slot_words(sheet, import.slot).map_or([0; 8], |slot| *slot.first_chunk().expect("a head"));
-        if let Some(answer) = self.before_fault(sheet, import) {
-            return answer;
-        }
-        if self == Misimport::FaultEmpties && import.caller != 0 && import.caller == slot[0] {
-            if let Some(words) = slot_words_mut(sheet, import.slot) {
-                words[3..].fill(0);
-            }
-        }
-        let place = match self {
-            Misimport::PlaceInCharacters => String::from_utf8_lossy(&import.text[..at]).chars().count(),
-            Misimport::PlaceIsLength => import.text.len(),
-            Misimport::ShortPlace => at % 65_536,
-            _ => at,
-        };
-        let redone = if self == Misimport::FaultReports { slot[4] } else { 0 };
-        ImportAnswer { redone, ..ImportAnswer::text_fault(place) }
-    }
-
-    /// Edit's answer, where this fault gives it before 17.
-    fn before_fault(self, sheet: &mut [u32], import: Import<'_>) -> Option<ImportAnswer> {
-        let earlier: &[u32] = match self {
-            Misimport::AfterCaller => &[1, 2, 3],
-            Misimport::AfterStored => &[4],
-            Misimport::AfterCount => &[7],
-            _ => return None,
-        };
-        // As many records as there would be characters if each took three bytes.
-        let characters = if self == Misimport::AfterCount { import.text.len() / 3 } else { 0 };
-        let Import { caller, slot, .. } = import;
-        let inserted = vec![0; 6 * characters];
-        let deleted = record_count(sheet, slot).unwrap_or(0);
-        let edit = Edit { caller, slot, place: 0, deleted, inserted: &inserted };
-        let answer = Second.edit(&mut sheet.to_vec(), edit);
-        earlier.contains(&answer.number).then(|| answer.into())
-    }
-}
-
-/// A character that was read, and what is known of it.
-#[derive(Debug, Clone, Copy)]
-pub struct Character {
-    /// Its code point, which may be a surrogate where that is the fault.
-    pub code_point: u32,
-    /// Its class, or 0.
-    pub class: u32,
-    /// The number of its group, or 0.
-    pub group: u32,
-    /// The ruby characters of its group, or 0.
-    pub ruby_count: u32,
-}
+/// All of them.
+pub const MISIMPORTS: [&[Misimport]; 6] =
+    [&IN_ELEMENTS, &IN_TAGS, &IN_BYTES, &IN_RECORDS, &IMPORTED_WRONGLY, &IN_LONG_TEXTS];

@@ -2,7 +2,7 @@
 
 use second::lists::in_list;
 
-use super::imports::{Character, Misimport};
+use super::misimport::Misimport;
 use crate::layout::CLASSES;
 use crate::texts::TAGS;
 
@@ -26,6 +26,19 @@ enum Element {
     Tag(&'static str),
     /// A character by its code point, with how many bytes it takes.
     Character(u32, usize),
+}
+
+/// A character that was read, and what is known of it.
+#[derive(Debug, Clone, Copy)]
+pub struct Character {
+    /// Its code point, which may be a surrogate where that is the fault.
+    pub code_point: u32,
+    /// Its class, or 0.
+    pub class: u32,
+    /// The number of its group, or 0.
+    pub group: u32,
+    /// The ruby characters of its group, or 0.
+    pub ruby_count: u32,
 }
 
 /// What has been read.
