@@ -1,35 +1,32 @@
 -- Answers 8, 12, 9 and 10 from the places that the searches give. Assumes nothing.
 use mathlib.Core.Path.{_≡_, refl, sym, ap, _∙_}
-use mathlib.Core.List.{List, [], _∷_, _++_}
-use mathlib.Core.Bool.{Bool, _&&_, true, false}
-use mathlib.Core.Logic.{inl, inr}
+use mathlib.Core.List.{List, [], _∷_}
+use mathlib.Core.Bool.{Bool, true, false}
 use mathlib.Core.Option.{Option, none, some}
 use Prim.Native.Nat.{ℕ, zero, suc, _+_, _≤_, _<_}
 use native.Mathlib.Omega.{arith}
-use lib.Dec.{eqb, ltb}
 use lib.ListN.{length, getD}
 use lib.Seq.{getD-take}
-use Rattle.rules.specs.Basics.{Run, whole, joined, firstFailing}
+use Rattle.rules.specs.Layout.{mostRecords}
+use Rattle.rules.specs.Basics.{Run, whole, firstFailing}
 use Rattle.rules.specs.Records.{Rec, recOk, badRecord}
 use Rattle.rules.specs.Listed.{isListed, notListed}
-use Rattle.rules.specs.Groups.{TextUnit, sameGroup, badGroup, groupFault, units, counts}
-use Rattle.rules.specs.Breaks.{bound, runs, noBreaking}
+use Rattle.rules.specs.Groups.{TextUnit, groupFault, units, counts}
+use Rattle.rules.specs.Breaks.{noBreaking}
 use Rattle.rules.specs.Adjustment.{lineOf, linesOf, compose}
 use Rattle.rules.specs.Refusals.{says, judged}
 use Rattle.rules.specs.Redone.{start}
-use Rattle.rules.proofs.Facts.{tested, some-none, some-same}
 use Rattle.rules.proofs.FirstFailing.{fails-within}
-use Rattle.rules.proofs.Cuts.{cut-joined, joined-append}
-use Rattle.rules.proofs.NoBreaking.{counts-append, place-of-10}
-use Rattle.rules.proofs.Lengths.{counts-units, length-linesOf, composed-few as lines-few}
-use Rattle.rules.proofs.Words.{length-records}
-use Rattle.compose.specs.Paragraph.{size, paragraph, Checked, placeOr}
+use Rattle.rules.proofs.AnswerPlaces.{fault-within, wide-within}
+use Rattle.rules.proofs.WordCounts.{length-linesOf, composed-few as lines-few}
+use Rattle.rules.proofs.RecordWords.{length-records}
+use Rattle.compose.specs.Paragraph.{recordCount, paragraph, Checked, placeOr}
 use Rattle.compose.specs.Lines.{firsts, broken, composed}
 use Rattle.compose.specs.LineFrom.{stopOf, BrokenTo}
-use Rattle.compose.specs.Adjusted.{ComposedTo}
+use Rattle.compose.specs.Places.{ComposedTo}
 use Rattle.compose.specs.declared.breaking.Stop.{Stop}
 use Rattle.compose.specs.Scan.{Scanned, Front}
-use Rattle.compose.specs.Composed.{RecordsJudged, RowsJudged, Kept, Started, Composed}
+use Rattle.compose.specs.Composed.{RecordsJudged, MetricsJudged, Kept, Started, Composed}
 
 -- a place below n names an answer; n itself names none, where answers name places below n
 named : (n r : ℕ) (o : Option ℕ) → r ≡ placeOr n o → r < n → o ≡ some r
@@ -40,57 +37,28 @@ unnamed : (n r : ℕ) (o : Option ℕ) → ((i : ℕ) → o ≡ some i → i < n
 unnamed n r none k e h = refl
 unnamed n r (some i) k e h = let z : ⊥ = omega (arith, k i refl) in absurd z
 
-group-within : (i n j : ℕ) (p : Rec) (rs : List Rec) → badGroup i n p rs ≡ some j → j < i + length rs
-unfolding badGroup
-group-within i n j p [] e = absurd (some-none (sym e))
-group-within i n j p (r ∷ rs) e =
-    elim (tested (sameGroup p r)) [
-      | inr z ↦ omega (arith, group-within (suc i) 1 j r rs (rw (z, badGroup) at e))
-      | inl z ↦
-          elim (tested (eqb (p .size) (r .size) && eqb (p .ruby) (r .ruby) && ltb n 16)) [
-            | inl y ↦ omega (arith, group-within (suc i) (suc n) j r rs (rw (z, y, badGroup) at e))
-            | inr y ↦ let q : i ≡ j = some-same (rw (z, y, badGroup) at e) in omega arith
-          ]
-    ]
-
-fault-within : (j : ℕ) (rs : List Rec) → groupFault rs ≡ some j → j < length rs
-unfolding groupFault
-fault-within j [] e = absurd (some-none (sym e))
-fault-within j (r ∷ rs) e = omega (arith, group-within 1 1 j r rs e)
-
-wide-within : (m x j : ℕ) (rs : List Rec) → noBreaking m x (units rs) ≡ some j → j < length rs
-unfolding runs joined counts
-wide-within m x j rs e =
-    let w = place-of-10 m x (units rs) j e in
-    let a : joined (w .before) ++ joined (w .run ∷ w .after) ≡ units rs =
-    sym (joined-append (w .before) (w .run ∷ w .after))
-    ∙ ap (λ ls. joined ls) (w .all) ∙ cut-joined bound (units rs) in
-    let n : counts (joined (w .before)) + counts (joined (w .run ∷ w .after)) ≡ length rs =
-    sym (counts-append (joined (w .before)) (joined (w .run ∷ w .after))) ∙ ap (λ us. counts us) a ∙ counts-units rs in
-    omega (arith, n, w .place)
-
-module _ (ws : List ℕ) {r : ℕ} (out : size ws ≤ r) where
-  len : length (paragraph ws) ≡ size ws
-  len = length-records ws 0 (size ws)
+module _ (ws : List ℕ) {r : ℕ} (out : recordCount ws ≤ r) where
+  len : length (paragraph ws) ≡ recordCount ws
+  len = length-records ws 0 (recordCount ws)
 
   -- no record fails a test, answer 8's or 12's
-  none-fails : (t : Rec → Bool) → r ≡ placeOr (size ws) (firstFailing t 0 (paragraph ws)) →
+  none-fails : (t : Rec → Bool) → r ≡ placeOr (recordCount ws) (firstFailing t 0 (paragraph ws)) →
       firstFailing t 0 (paragraph ws) ≡ none
-  none-fails t e = unnamed (size ws) r _ (λ i q. omega (arith, fails-within t 0 i (paragraph ws) q, len)) e out
+  none-fails t e = unnamed (recordCount ws) r _ (λ i q. omega (arith, fails-within t 0 i (paragraph ws) q, len)) e out
 
-  no-8 : r ≡ placeOr (size ws) (badRecord 0 (paragraph ws)) → badRecord 0 (paragraph ws) ≡ none
+  no-8 : r ≡ placeOr (recordCount ws) (badRecord 0 (paragraph ws)) → badRecord 0 (paragraph ws) ≡ none
   unfolding badRecord
   no-8 e = none-fails recOk e
 
-  no-12 : r ≡ placeOr (size ws) (notListed 0 (paragraph ws)) → notListed 0 (paragraph ws) ≡ none
+  no-12 : r ≡ placeOr (recordCount ws) (notListed 0 (paragraph ws)) → notListed 0 (paragraph ws) ≡ none
   unfolding notListed
   no-12 e = none-fails isListed e
 
-  no-9 : r ≡ placeOr (size ws) (groupFault (paragraph ws)) → groupFault (paragraph ws) ≡ none
-  no-9 e = unnamed (size ws) r _ (λ i q. omega (arith, fault-within i (paragraph ws) q, len)) e out
+  no-9 : r ≡ placeOr (recordCount ws) (groupFault (paragraph ws)) → groupFault (paragraph ws) ≡ none
+  no-9 e = unnamed (recordCount ws) r _ (λ i q. omega (arith, fault-within i (paragraph ws) q, len)) e out
 
   no-10 : (m x : ℕ) → r ≡ stopOf ws m x → noBreaking m x (units (paragraph ws)) ≡ none
-  no-10 m x e = unnamed (size ws) r _ (λ i q. omega (arith, wide-within m x i (paragraph ws) q, len)) e out
+  no-10 m x e = unnamed (recordCount ws) r _ (λ i q. omega (arith, wide-within m x i (paragraph ws) q, len)) e out
 
 -- answers 8, 12 and 9, as `first_fault` finds them -----------------------------------------------------------------
 
@@ -103,42 +71,44 @@ module _ {ws : List ℕ} {number place : ℕ} where
   accepted : number ≡ 0 → Checked ws → RecordsJudged ws number place
   accepted e c = record { refused = λ q. absurd (q e); accepted = λ q. c }
 
-  module _ {bad : ℕ} (b : bad ≡ placeOr (size ws) (badRecord 0 (paragraph ws))) where
-    pub fault-8 : bad < size ws → (number ≡ 8) × (place ≡ bad) → RecordsJudged ws number place
+  module _ {bad : ℕ} (b : bad ≡ placeOr (recordCount ws) (badRecord 0 (paragraph ws))) where
+    pub fault-8 : bad < recordCount ws → (number ≡ 8) × (place ≡ bad) → RecordsJudged ws number place
     unfolding judged
-    fault-8 h e = let f = named (size ws) bad (badRecord 0 (paragraph ws)) b h in refused e (λ m x. rw f)
+    fault-8 h e = let f = named (recordCount ws) bad (badRecord 0 (paragraph ws)) b h in refused e (λ m x. rw f)
 
-    module _ (sound : size ws ≤ bad) {lacking : ℕ} (l : lacking ≡ placeOr (size ws) (notListed 0 (paragraph ws))) where
-      pub fault-12 : lacking < size ws → (number ≡ 12) × (place ≡ lacking) → RecordsJudged ws number place
+    module _ (sound : recordCount ws ≤ bad) {lacking : ℕ}
+        (l : lacking ≡ placeOr (recordCount ws) (notListed 0 (paragraph ws))) where
+      pub fault-12 : lacking < recordCount ws → (number ≡ 12) × (place ≡ lacking) → RecordsJudged ws number place
       unfolding judged
       fault-12 h e =
-          let f = named (size ws) lacking (notListed 0 (paragraph ws)) l h in
+          let f = named (recordCount ws) lacking (notListed 0 (paragraph ws)) l h in
           refused e (λ m x. rw (no-8 ws sound b, f))
 
-      module _ (listed : size ws ≤ lacking) {fault : ℕ}
-          (g : fault ≡ placeOr (size ws) (groupFault (paragraph ws))) where
-        pub fault-9 : fault < size ws → (number ≡ 9) × (place ≡ fault) → RecordsJudged ws number place
+      module _ (listed : recordCount ws ≤ lacking) {fault : ℕ}
+          (g : fault ≡ placeOr (recordCount ws) (groupFault (paragraph ws))) where
+        pub fault-9 : fault < recordCount ws → (number ≡ 9) × (place ≡ fault) → RecordsJudged ws number place
         unfolding judged
         fault-9 h e =
-            let f = named (size ws) fault (groupFault (paragraph ws)) g h in
+            let f = named (recordCount ws) fault (groupFault (paragraph ws)) g h in
             refused e (λ m x. rw (no-8 ws sound b, no-12 ws listed l, f))
 
-        pub no-fault : size ws ≤ 256 → size ws ≤ fault → number ≡ 0 → RecordsJudged ws number place
+        pub no-fault : recordCount ws ≤ mostRecords → recordCount ws ≤ fault → number ≡ 0 →
+            RecordsJudged ws number place
         no-fault few h e =
             accepted e
             (record { few = few; sound = no-8 ws sound b; listed = no-12 ws listed l; grouped = no-9 ws h g })
 
 -- the scan's yes, where what stands before is known, and its no
-module _ {ws ds₀ gs₀ os₀ ds gs os : List ℕ} {start stop number place : ℕ} {b : Bool}
-    (s : Scanned ws start stop ds₀ gs₀ os₀ ds gs os b) where
-  pub scanned-rows : Front ws start stop ds₀ gs₀ os₀ → b ≡ true → number ≡ 0 → RowsJudged ws ds gs os number place
-  scanned-rows f e z =
+module _ {ws ds₀ gs₀ os₀ ds gs os : List ℕ} {known stop number place : ℕ} {b : Bool}
+    (s : Scanned ws known stop ds₀ gs₀ os₀ ds gs os b) where
+  pub scanned-metrics : Front ws known stop ds₀ gs₀ os₀ → b ≡ true → number ≡ 0 → MetricsJudged ws ds gs os number place
+  scanned-metrics f e z =
       let r = s .reached e in
-      let k = f (r .at) ds gs os (r .low) (r .rows) (r .below) in
-      record { records = accepted z (k .checked); rows = λ q. k .rows }
+      let k = f (r .at) ds gs os (r .low) (r .metrics) (r .below) in
+      record { records = accepted z (k .checked); metrics = λ q. k .metrics }
 
-  pub scanned-fault : b ≡ false → RecordsJudged ws number place → RowsJudged ws ds gs os number place
-  scanned-fault e r = record { records = r; rows = λ z. absurd (s .ill e (r .accepted z)) }
+  pub scanned-fault : b ≡ false → RecordsJudged ws number place → MetricsJudged ws ds gs os number place
+  scanned-fault e r = record { records = r; metrics = λ z. absurd (s .ill e (r .accepted z)) }
 
 -- what `check` and `compose` answer ---------------------------------------------------------------------------------
 
@@ -147,9 +117,9 @@ lines-composed : (ws : List ℕ) (m x : ℕ) → length (composed ws m x) ≡ le
 unfolding compose
 lines-composed ws m x = length-linesOf m x (broken ws m x)
 
-lines-within : (ws : List ℕ) (m x : ℕ) → length (broken ws m x) ≤ size ws
+lines-within : (ws : List ℕ) (m x : ℕ) → length (broken ws m x) ≤ recordCount ws
 lines-within ws m x =
-    omega (arith, lines-composed ws m x, lines-few m x (paragraph ws), length-records ws 0 (size ws))
+    omega (arith, lines-composed ws m x, lines-few m x (paragraph ws), length-records ws 0 (recordCount ws))
 
 -- the first record of each line, as the breaking writes them
 firsts-start : (m x i : ℕ) (ls : List (Run TextUnit)) (j : ℕ) → j < length ls →
@@ -160,10 +130,10 @@ firsts-start m x i (l ∷ ls) zero h = omega arith
 firsts-start m x i (l ∷ ls) (suc j) h =
     omega (arith, firsts-start m 0 (i + counts (whole l)) ls j (omega arith))
 
-pub judged-rows : {ws ds gs os : List ℕ} {a p : ℕ} → RowsJudged ws ds gs os a p → a ≡ 0 → Kept ws ds gs os
-judged-rows r e = record { checked = r .records .accepted e; rows = r .rows e }
+pub judged-metrics : {ws ds gs os : List ℕ} {a p : ℕ} → MetricsJudged ws ds gs os a p → a ≡ 0 → Kept ws ds gs os
+judged-metrics r e = record { checked = r .records .accepted e; metrics = r .metrics e }
 
-module _ {ws ds gs os : List ℕ} {a p : ℕ} (r : RowsJudged ws ds gs os a p) (m x : ℕ) where
+module _ {ws ds gs os : List ℕ} {a p : ℕ} (r : MetricsJudged ws ds gs os a p) (m x : ℕ) where
   -- 8, 12 or 9 applies
   pub started-not : {starts : List ℕ} → (a ≡ 0 → ⊥) → Started ws m x starts a p
   started-not n = record { answer = r .records .refused n m x; first = λ z. absurd (n z) }
@@ -173,15 +143,15 @@ module _ {ws ds gs os : List ℕ} {a p : ℕ} (r : RowsJudged ws ds gs os a p) (
 
   -- they do not; s is the record from which on no line fits
   module _ (passed : a ≡ 0) {number place : ℕ} where
-    answer-10 : {s : ℕ} → s ≡ stopOf ws m x → s < size ws → (number ≡ 10) × (place ≡ s) →
+    answer-10 : {s : ℕ} → s ≡ stopOf ws m x → s < recordCount ws → (number ≡ 10) × (place ≡ s) →
         judged m x (paragraph ws) ≡ says number place
     unfolding judged
     answer-10 {s} e h q =
         let c = r .records .accepted passed in
-        let n = named (size ws) s (noBreaking m x (units (paragraph ws))) e h in
+        let n = named (recordCount ws) s (noBreaking m x (units (paragraph ws))) e h in
         rw (c .sound, c .listed, c .grouped, n, q .0, q .1)
 
-    answer-0 : {s : ℕ} → s ≡ stopOf ws m x → size ws ≤ s → (number ≡ 0) × (place ≡ length (composed ws m x)) →
+    answer-0 : {s : ℕ} → s ≡ stopOf ws m x → recordCount ws ≤ s → (number ≡ 0) × (place ≡ length (composed ws m x)) →
         judged m x (paragraph ws) ≡ says number place
     unfolding judged
     answer-0 e h q =
@@ -189,15 +159,15 @@ module _ {ws ds gs os : List ℕ} {a p : ℕ} (r : RowsJudged ws ds gs os a p) (
         rw (c .sound, c .listed, c .grouped, no-10 ws h m x e, q .0, q .1)
 
     module _ {stop : Stop} where
-      pub started-10 : {starts : List ℕ} → BrokenTo ws m x starts stop → stop .place < size ws →
+      pub started-10 : {starts : List ℕ} → BrokenTo ws m x starts stop → stop .place < recordCount ws →
           (number ≡ 10) × (place ≡ stop .place) → Started ws m x starts number place
       started-10 b h q = record { answer = answer-10 (b .place) h q; first = λ z. absurd (omega arith) }
 
-      pub composed-10 : {ps₀ ls₀ ps ls : List ℕ} → ComposedTo ws m x ps₀ ls₀ ps ls stop → stop .place < size ws →
+      pub composed-10 : {ps₀ ls₀ ps ls : List ℕ} → ComposedTo ws m x ps₀ ls₀ ps ls stop → stop .place < recordCount ws →
           (number ≡ 10) × (place ≡ stop .place) → Composed ws m x ps₀ ls₀ ps ls number place
       composed-10 b h q = record { answer = answer-10 (b .place) h q; written = λ z. absurd (omega arith) }
 
-      pub started-0 : {starts : List ℕ} → BrokenTo ws m x starts stop → size ws ≤ stop .place →
+      pub started-0 : {starts : List ℕ} → BrokenTo ws m x starts stop → recordCount ws ≤ stop .place →
           (number ≡ 0) × (place ≡ stop .lines) → Started ws m x starts number place
       unfolding compose
       started-0 {starts} b h q =
@@ -211,7 +181,7 @@ module _ {ws ds gs os : List ℕ} {a p : ℕ} (r : RowsJudged ws ds gs os a p) (
                 ∙ omega (arith, firsts-start m x 0 (broken ws m x) j (omega (arith, k .count)));
           }
 
-      pub composed-0 : {ps₀ ls₀ ps ls : List ℕ} → ComposedTo ws m x ps₀ ls₀ ps ls stop → size ws ≤ stop .place →
+      pub composed-0 : {ps₀ ls₀ ps ls : List ℕ} → ComposedTo ws m x ps₀ ls₀ ps ls stop → recordCount ws ≤ stop .place →
           (number ≡ 0) × (place ≡ stop .lines) → Composed ws m x ps₀ ls₀ ps ls number place
       composed-0 b h q =
           let n = no-10 ws h m x (b .place) in
@@ -221,10 +191,11 @@ module _ {ws ds gs os : List ℕ} {a p : ℕ} (r : RowsJudged ws ds gs os a p) (
           }
 
 -- there are no more lines than records
-module _ {ws : List ℕ} {m x : ℕ} {stop : Stop} (few : size ws ≤ 256) where
-  pub broken-few : {starts : List ℕ} → BrokenTo ws m x starts stop → size ws ≤ stop .place → stop .lines ≤ 256
+module _ {ws : List ℕ} {m x : ℕ} {stop : Stop} (few : recordCount ws ≤ mostRecords) where
+  pub broken-few : {starts : List ℕ} → BrokenTo ws m x starts stop → recordCount ws ≤ stop .place →
+      stop .lines ≤ mostRecords
   broken-few b h = omega (arith, b .broken (no-10 ws h m x (b .place)) .count, lines-within ws m x)
 
-  pub composed-few : {ps₀ ls₀ ps ls : List ℕ} → ComposedTo ws m x ps₀ ls₀ ps ls stop → size ws ≤ stop .place →
-      stop .lines ≤ 256
+  pub composed-few : {ps₀ ls₀ ps ls : List ℕ} → ComposedTo ws m x ps₀ ls₀ ps ls stop → recordCount ws ≤ stop .place →
+      stop .lines ≤ mostRecords
   composed-few b h = omega (arith, b .count (no-10 ws h m x (b .place)), lines-composed ws m x, lines-within ws m x)

@@ -4,13 +4,14 @@ use Prim.Native.Nat.{ℕ, _≤_}
 use mathlib.Core.Bool.{true}
 use mathlib.Core.List.{List}
 use mathlib.Core.Option.{none}
+use Rattle.rules.specs.Layout.{mostRecords}
 use Rattle.rules.specs.Records.{Rec, recOk, badRecord}
 use Rattle.rules.specs.Listed.{isListed, notListed}
 use Rattle.rules.specs.Groups.{groupFault}
 use Rattle.rules.specs.Meanings.{All, all-none, all-more}
 use Rattle.rules.proofs.FirstFailing.{none-fails, all-pass}
 use Rattle.rules.proofs.Listed.{each}
-use Rattle.compose.specs.Paragraph.{size, paragraph, Checked}
+use Rattle.compose.specs.Paragraph.{recordCount, paragraph, Checked}
 use Rattle.compose.specs.Scan.{Fine}
 
 pub checked-fine : {ws : List ℕ} → Checked ws → All Fine (paragraph ws)
@@ -22,7 +23,8 @@ checked-fine {ws} c =
     both all-none all-none = all-none
     both (all-more p ps) (all-more q qs) = all-more (record { sound = p; listed = q }) (both ps qs)
 
-pub fine-checked : {ws : List ℕ} → size ws ≤ 256 → All Fine (paragraph ws) → groupFault (paragraph ws) ≡ none →
+pub fine-checked : {ws : List ℕ} → recordCount ws ≤ mostRecords → All Fine (paragraph ws) →
+    groupFault (paragraph ws) ≡ none →
     Checked ws
 unfolding badRecord notListed
 fine-checked few fine g =

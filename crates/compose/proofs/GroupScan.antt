@@ -10,16 +10,17 @@ use mathlib.Core.Option.{Option, none, some}
 use lib.Dec.{ltb}
 use lib.ListN.{drop}
 use borrow.Author.Tests.{lt-ltb}
+use Rattle.rules.specs.Limits.{mostGrouped}
 use Rattle.rules.specs.Records.{Rec}
 use Rattle.rules.specs.Groups.{sameGroup, badGroup, groupFault}
-use Rattle.rules.proofs.Facts.{tested, some-none}
+use Rattle.rules.proofs.Decisions.{tested, some-none}
 use Rattle.compose.proofs.Faults.{alike}
-use Rattle.compose.proofs.GroupParts.{fault-less}
+use Rattle.compose.proofs.GroupFaults.{fault-less}
 
 -- a record p, with which a unit of c records starts, and those after it: with up to 16 - c of its group before it the
 -- rules of groups are kept
 pub Keeps : ℕ → Rec → List Rec → Type 0
-Keeps c p rs = (i n : ℕ) → n + c ≤ 17 → badGroup i n p rs ≡ none
+Keeps c p rs = (i n : ℕ) → n + c ≤ mostGrouped + 1 → badGroup i n p rs ≡ none
 
 pub keeps-last : (p : Rec) → Keeps 1 p []
 unfolding Keeps badGroup
@@ -33,9 +34,9 @@ pub keeps-more : (c : ℕ) (p r : Rec) (rs : List Rec) → sameGroup p r ≡ tru
     Keeps (suc c) p (r ∷ rs)
 unfolding Keeps badGroup
 keeps-more c p r rs e a l k i n h =
-    rw (badGroup, e, a, lt-ltb n 16 (omega arith)) (k (suc i) (suc n) (omega arith))
+    rw (badGroup, e, a, lt-ltb n mostGrouped (omega arith)) (k (suc i) (suc n) (omega arith))
 
-pub keeps-all : (c : ℕ) (p : Rec) (rs : List Rec) → c ≤ 16 → Keeps c p rs → groupFault (p ∷ rs) ≡ none
+pub keeps-all : (c : ℕ) (p : Rec) (rs : List Rec) → c ≤ mostGrouped → Keeps c p rs → groupFault (p ∷ rs) ≡ none
 unfolding Keeps groupFault
 keeps-all c p rs l k = k 1 1 (omega arith)
 
@@ -47,7 +48,7 @@ fault-tail p (r ∷ rs) h =
     elim (tested (sameGroup p r)) [
       | inr e ↦ fault-less 2 1 1 1 r rs (omega arith) (rw (badGroup, e) at h)
       | inl e ↦
-          elim (tested (alike p r && ltb 1 16)) [
+          elim (tested (alike p r && ltb 1 mostGrouped)) [
             | inl d ↦ fault-less 2 1 2 1 r rs (omega arith) (rw (badGroup, e, d) at h)
             | inr d ↦ let f : _≡_ {A = Option ℕ} (some 1) none = rw (badGroup, e, d) at h in absurd (some-none f)
           ]

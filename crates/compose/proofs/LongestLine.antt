@@ -1,81 +1,116 @@
--- The search for the longest line, run by run: what it remembers is the line that `breaking` takes. Assumes nothing.
-use mathlib.Core.Path.{_≡_, ap, sym, _∙_}
-use Prim.Native.Nat.{ℕ, _+_, _≤_}
+-- The loop of `longest_line`, as steps from record to record: what is left from a record on gives what the whole gives.
+-- Assumes nothing.
+use mathlib.Core.Path.{_≡_, refl, ap, sym}
+use Prim.Native.Nat.{ℕ, _+_, _*_, _-_, _/_, _%_, min, _≤_, _<_}
 use native.Mathlib.Omega.{arith}
-use native.Mathlib.Nat.{add-assoc}
-use mathlib.Core.Bool.{cond}
-use mathlib.Core.List.{List, [], _∷_, _++_, append-assoc}
-use lib.Dec.{leb}
-use borrow.Author.Tests.{le-leb}
-use Rattle.rules.specs.Basics.{Run, whole, then, joined}
-use Rattle.rules.specs.Groups.{TextUnit, counts}
-use Rattle.rules.specs.Gaps.{Gap}
-use Rattle.rules.specs.Breaks.{bound, gap, width, runs, wideRun, filled, breaking}
-use Rattle.rules.specs.Adjustment.{nothing}
-use Rattle.rules.specs.Meanings.{lastIn}
-use Rattle.rules.proofs.Cuts.{last-append, cut-joined, cut-tail}
-use Rattle.rules.proofs.NoBreaking.{counts-append}
-use Rattle.rules.proofs.Widths.{width-then}
-use Rattle.compose.proofs.LineRuns.{Sums, noUnits, spaced, onto, reach, units-append, reach-width}
+use mathlib.Core.Bool.{Bool, true, false, cond}
+use mathlib.Core.List.{List, [], _∷_}
+use mathlib.Core.Logic.{_⊎_, inl, inr}
+use lib.ListN.{length, getD}
+use lib.Seq.{take-all}
+use borrow.Author.Tests.{le-leb, lt-leb}
+use Rattle.rules.specs.Limits.{largestMeasure, largestAdvance}
+use Rattle.rules.specs.Records.{records}
+use Rattle.rules.specs.Gaps.{plus, noGaps}
+use Rattle.rules.specs.Packed.{unpacked, leastIn, AtMost}
+use Rattle.rules.proofs.WordCounts.{counts-units}
+use Rattle.rules.proofs.Packed.{at-most-255, least-unpacked}
+use Rattle.rules.proofs.RecordWords.{length-records}
+use Rattle.compose.specs.Limits.{mostGaps}
+use Rattle.compose.specs.Paragraph.{recordCount, unitsFrom}
+use Rattle.compose.specs.Metrics.{Metrics, metricsOf, bit, Held, held-more, held-none}
+use Rattle.compose.specs.LineFrom.{LineDue, LineFrom}
+use Rattle.compose.specs.declared.breaking.LineSums.{LineSums}
+use Rattle.compose.proofs.GapSums.{at-most-more, nothing-yet}
+use Rattle.compose.proofs.JointAfter.{bit-small}
+use Rattle.compose.proofs.HeldMetrics.{length-metricsOf}
+use Rattle.compose.proofs.SearchByMetrics.{searched, by-runs}
+use Rattle.compose.proofs.LineAt.{sumsBy, given, line-found}
 
--- the search, where units of the sums s come next: t where they fit, else what is remembered
-abbrev pub fitted : ℕ → Sums → Sums → Sums → Sums
-fitted m s t b = cond (leb (reach s) m) t b
+-- the search is at record k, after units that end at `solid` and gaps of the sum `total`
+pub record Search (ws ds gs os : List ℕ) (i k m x : ℕ) (line : LineSums) (solid total : ℕ) : Type 0 where
+  pub left : List Metrics
+  pub held : Held ds gs os k left
+  pub number : k + length left ≡ recordCount ws
+  pub same : searched m left (record { end = k; solid = solid; gaps = unpacked total }) (sumsBy line) ≡ given ws i m x
+  pub solid-limit : solid ≤ largestMeasure
+  pub limit : AtMost (min k mostGaps) (unpacked total)
+  pub line-limit : AtMost mostGaps (unpacked (line .gaps))
 
--- the gap from a unit to the runs after it
-abbrev pub gapTo : TextUnit → List (Run TextUnit) → Gap
-gapTo u [] = nothing
-gapTo u (l ∷ ls) = gap u (l .first)
+-- the line that is remembered after a record, whose word is w: one that ends with it, or the line before
+abbrev pub Next : ℕ → LineSums → LineSums → LineSums → Type 0
+Next w new line l = ((w % 2 ≡ 0) × (l ≡ new)) ⊎ ((w % 2 ≡ 0 → ⊥) × (l ≡ line))
 
--- from run to run, after units of the sums s, with b remembered
-unfoldable pub byRuns : ℕ → List (Run TextUnit) → Sums → Sums → Sums
-byRuns m [] s b = b
-byRuns m (l ∷ ls) s b = fitted m (onto s l) (byRuns m ls (spaced (onto s l) (gapTo (lastIn l) ls)) (onto s l)) b
+next-is : (forbidden : Bool) (a : ℕ) {w : ℕ} {new line l : LineSums} → w ≡ 2 * a + bit forbidden → Next w new line l →
+    sumsBy l ≡ cond forbidden (sumsBy line) (sumsBy new)
+next-is true a e (inl c) = absurd (omega arith)
+next-is true a e (inr c) = ap (λ l. sumsBy l) (c .1)
+next-is false a e (inl c) = ap (λ l. sumsBy l) (c .1)
+next-is false a e (inr c) = absurd (c .0 (omega arith))
 
--- a line of the units us begins with l, which ends where a run does: the runs ks are left
-pub record Begun (m x i : ℕ) (us : List TextUnit) (l : Run TextUnit) (ks : List (Run TextUnit)) : Type 0 where
-  pub fits : x + width l ≤ m
-  pub left : runs (joined ks) ≡ ks
-  pub joins-up : whole l ++ joined ks ≡ us
-  pub lines : breaking m x (runs us) ≡ filled m x l ks
-  pub wide : wideRun m x i (runs us) ≡ wideRun m 0 (i + counts (whole l)) ks
+-- one turn, at record k: its sums stay within limits; it ends the search, or the search goes on
+pub record Turn {ws ds gs os : List ℕ} {m x i : ℕ} {line : LineSums} {solid total k : ℕ}
+    (s : Search ws ds gs os i k m x line solid total) : Type 0 where
+  pub solid-limit : solid + getD ds k 0 / 2 ≤ largestMeasure + largestAdvance
+  pub sums : AtMost mostGaps (plus (unpacked total) (unpacked (getD gs k 0)))
+  pub over : m < solid + getD ds k 0 / 2 + leastIn total → LineFrom ws i m x line
+  pub on : {t : ℕ} {l : LineSums} → solid + getD ds k 0 / 2 + leastIn total ≤ m →
+      unpacked t ≡ plus (unpacked total) (unpacked (getD gs k 0)) →
+      Next (getD ds k 0) (record { end = k + 1; solid = solid + getD ds k 0 / 2; gaps = total }) line l →
+      Search ws ds gs os i (k + 1) m x l (solid + getD ds k 0 / 2) t
 
-module _ {m x i : ℕ} {us : List TextUnit} where
-  pub begun-first : (l : Run TextUnit) (ks : List (Run TextUnit)) → runs us ≡ l ∷ ks → x + width l ≤ m →
-      Begun m x i us l ks
-  unfolding runs breaking wideRun joined
-  begun-first l ks e f =
+module _ {ws ds gs os : List ℕ} {i m x : ℕ} (p : LineDue ws ds gs os i m x) where
+  pub search-start : Search ws ds gs os i i m x (record { end = i; solid = x; gaps = 0 }) x 0
+  unfolding unitsFrom
+  search-start =
+      let n = recordCount ws - i in
       record {
-        fits = f;
-        left = sym (cut-tail bound us l ks e);
-        joins-up = ap (λ ls. joined ls) (sym e) ∙ cut-joined bound us;
-        lines = rw (e, breaking);
-        wide = rw (e, wideRun, le-leb _ _ f);
+        left = metricsOf (unitsFrom ws i);
+        held = p .metrics;
+        number = omega (arith, length-metricsOf (unitsFrom ws i), counts-units (records ws i n), length-records ws i n);
+        same = rw nothing-yet (by-runs m (unitsFrom ws i) _ _);
+        solid-limit = p .indent;
+        limit = rw nothing-yet (omega arith);
+        line-limit = rw nothing-yet (omega arith);
       }
 
-  pub begun-more : (l k : Run TextUnit) (ks : List (Run TextUnit)) → Begun m x i us l (k ∷ ks) →
-      x + width (then l k) ≤ m → Begun m x i us (then l k) ks
-  unfolding runs filled wideRun joined
-  begun-more l k ks q f =
-      let w : 0 + width k ≤ m = omega (arith, width-then (l .first) (l .rest) (k .first) (k .rest)) in
-      record {
-        fits = f;
-        left = sym (cut-tail bound (joined (k ∷ ks)) k ks (q .left));
-        joins-up = append-assoc (whole l) (whole k) (joined ks) ∙ q .joins-up;
-        lines = rw (filled, le-leb _ _ f) at (q .lines);
-        wide = rw (wideRun, le-leb _ _ w, add-assoc, ← counts-append (whole l) (whole k)) at (q .wide);
-      }
+  module _ {line : LineSums} {solid total k : ℕ} (s : Search ws ds gs os i k m x line solid total) where
+    pub search-end : recordCount ws ≤ k → LineFrom ws i m x line
+    unfolding searched
+    search-end h =
+        let none = sym (take-all 0 (s .left) (omega arith)) in
+        line-found p (s .line-limit) (rw none at (s .same))
 
--- what the search gives after a run l that begins a line: it goes on with the next run, where both fit
-abbrev pub after : ℕ → ℕ → ℕ → Run TextUnit → List (Run TextUnit) → Sums
-after m x i l ks = byRuns m ks (spaced (onto (noUnits i x) l) (gapTo (lastIn l) ks)) (onto (noUnits i x) l)
+    -- the sums with the gap after a record
+    sums-limit : (q : Metrics) (qs : List Metrics) → (qs ≡ [] → q .gap ≡ noGaps) → AtMost 1 (q .gap) →
+        s .left ≡ q ∷ qs →
+        AtMost (min (k + 1) mostGaps) (plus (unpacked total) (q .gap))
+    sums-limit q [] last b e = rw (last refl) (omega arith)
+    sums-limit q (q₂ ∷ qs) last b e =
+        at-most-more (s .limit) b (omega (arith, ap length e))
 
-pub after-more : (m x i : ℕ) (l k : Run TextUnit) (ks : List (Run TextUnit)) →
-    after m x i l (k ∷ ks)
-    ≡ cond (leb (x + width (then l k)) m) (after m x i (then l k) ks) (onto (noUnits i x) l)
-unfolding byRuns
-after-more m x i l k ks =
-    let o = units-append (noUnits i x) (l .first) (l .rest) (k .first) (k .rest) in
-    let e = last-append (l .first) (l .rest) (k .first) (k .rest) in
-    (λ t. fitted m (o t) (byRuns m ks (spaced (o t) (gapTo (sym e t) ks)) (o t)) (onto (noUnits i x) l))
-    ∙ rw (reach-width i x (then l k))
+    pub turn : {left : List Metrics} → Held ds gs os k left → s .left ≡ left → k < recordCount ws → Turn s
+    unfolding searched
+    turn held-none e h = absurd (omega (arith, ap length e))
+    turn (held-more {q = q} {qs = qs} w last d) e h =
+        let half : getD ds k 0 / 2 ≡ q .advance = omega (arith, bit-small (q .forbidden)) in
+        let same = rw (e, searched, ← half, ← w .gap, ← least-unpacked total) at (s .same) in
+        let sums = sums-limit q qs last (w .gap-limit) e in
+        record {
+          solid-limit = omega arith;
+          sums = rw (w .gap) (at-most-255 sums (omega arith));
+          over = λ o. line-found p (s .line-limit) (rw (lt-leb _ _ o) at same);
+          on = λ {t} {l} o z c.
+              record {
+                left = qs;
+                held = d;
+                number = omega (arith, ap length e);
+                same = rw (z, next-is (q .forbidden) (q .advance) (w .advance) c) (rw (le-leb _ _ o) at same);
+                solid-limit = omega arith;
+                limit = rw (z, w .gap) sums;
+                line-limit = elim c [
+                  | inl n ↦ rw (n .1) (at-most-255 (s .limit) (omega arith))
+                  | inr n ↦ rw (n .1) (s .line-limit)
+                ];
+              };
+        }

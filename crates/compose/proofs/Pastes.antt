@@ -25,10 +25,11 @@ pub paste-left : {d ps left qs : List ℕ} {off m : ℕ} → Pasting d off ps m 
 paste-left {d} {ps} {left} {qs} {off} {m} p = omega (arith, ap length (p .rest), length-drop m ps, p .short)
 
 -- n words more, from where the last ones end
-pub paste-more : {d ps left qs rs : List ℕ} {off m k : ℕ} (ws : List ℕ) (n i : ℕ) → Pasting d off ps m (ws ++ left) qs →
-    (length ws ≡ n) × (i ≡ off + m) × (k ≡ m + n) × (off ≤ length d) → rs ≡ paste qs i ws n →
-    Pasting d off ps k left rs
-paste-more {d} {ps} {left} {qs} {rs} {off} {m} {k} ws n i p (e, f, g, h) s =
+pub paste-more : {d ps left qs qs′ : List ℕ} {off m k : ℕ} (ws : List ℕ) (n i : ℕ) →
+    Pasting d off ps m (ws ++ left) qs →
+    (length ws ≡ n) × (i ≡ off + m) × (k ≡ m + n) × (off ≤ length d) → qs′ ≡ paste qs i ws n →
+    Pasting d off ps k left qs′
+paste-more {d} {ps} {left} {qs} {qs′} {off} {m} {k} ws n i p (e, f, g, h) s =
     let here : take i qs ≡ take off d ++ take m ps = rw (f, p .is) (take-paste d off ps m h (p .short)) in
     let after : drop (i + n) qs ≡ drop (off + k) d =
     rw (g, f, p .is, ← add-assoc, ← (drop-drop n (off + m) d), ← (drop-drop n (off + m) (paste d off ps m)))

@@ -1,8 +1,8 @@
--- The rows that an edit keeps.
+-- The metrics that an edit keeps.
 --
 --   unit from    the first record, from record a on, with which a unit starts whatever stands before record a
---   in turn      the order in which rows are moved, so that none is written over that is still to be moved
---   moved        rows moved to another place of their tables
+--   in turn      the order in which metrics are moved, so that none are written over that are still to be moved
+--   moved        metrics moved to another place of their tables, from `source` on to `target`
 --
 -- Assumes nothing.
 use mathlib.Core.Path.{_≡_}
@@ -10,44 +10,46 @@ use Prim.Native.Nat.{ℕ, _+_, _-_, _≤_, _<_}
 use mathlib.Core.Bool.{false}
 use mathlib.Core.List.{List}
 use lib.ListN.{getD, set}
+use Rattle.rules.specs.Layout.{mostRecords}
 use Rattle.rules.specs.Records.{Rec, recAt}
 use Rattle.rules.specs.Groups.{sameGroup}
-use Rattle.compose.specs.Paragraph.{size}
+use Rattle.compose.specs.Paragraph.{recordCount}
+use Rattle.compose.specs.Scan.{Below}
 
 -- it is joined to no record p before it: p is any where record i is record a, and else record i - 1
 pub record UnitFrom (ws : List ℕ) (a i : ℕ) : Type 0 where
   pub low : a ≤ i
-  pub within : i ≤ size ws
-  pub apart : i < size ws → (p : Rec) → (a < i → p ≡ recAt ws (i - 1)) → sameGroup p (recAt ws i) ≡ false
+  pub within : i ≤ recordCount ws
+  pub apart : i < recordCount ws → (p : Rec) → (a < i → p ≡ recAt ws (i - 1)) → sameGroup p (recAt ws i) ≡ false
 
 abbrev pub wordCopied : ℕ → ℕ → List ℕ → List ℕ
-wordCopied start to us = set us to (getD us start 0)
+wordCopied source target ts = set ts target (getD ts source 0)
 
--- row i, of `count` that are moved, is moved in turn k: the last first where they go down
-pub record InTurn (start to count k i : ℕ) : Type 0 where
+-- of `count` that are moved, those of record i are moved in turn k: the last first where they go down
+pub record InTurn (source target count k i : ℕ) : Type 0 where
   pub within : i < count
-  pub down : start < to → i + k + 1 ≡ count
-  pub up : to ≤ start → i ≡ k
+  pub down : source < target → i + k + 1 ≡ count
+  pub up : target ≤ source → i ≡ k
 
--- a table to which `count` of another's words are moved; those before them are as they were
-pub record Moved (us : List ℕ) (start to count : ℕ) (vs : List ℕ) : Type 0 where
-  pub below : (i : ℕ) → i < to → getD vs i 0 ≡ getD us i 0
-  pub moved : (i : ℕ) → i < count → getD vs (to + i) 0 ≡ getD us (start + i) 0
+-- a table in which `count` words are moved; those before them are as they were
+pub record Moved (source target count : ℕ) (ts₀ ts : List ℕ) : Type 0 where
+  pub below : Below target ts₀ ts
+  pub moved : (i : ℕ) → i < count → getD ts (target + i) 0 ≡ getD ts₀ (source + i) 0
 
-pub record RowsMoved (ds gs os : List ℕ) (start to count : ℕ) (ds′ gs′ os′ : List ℕ) : Type 0 where
-  pub advances : Moved ds start to count ds′
-  pub gaps : Moved gs start to count gs′
-  pub offsets : Moved os start to count os′
+pub record MetricsMoved (source target count : ℕ) (ds₀ gs₀ os₀ ds gs os : List ℕ) : Type 0 where
+  pub advances : Moved source target count ds₀ ds
+  pub gaps : Moved source target count gs₀ gs
+  pub offsets : Moved source target count os₀ os
 
--- an old paragraph's records from record `start` on are to be a new one's from record `to` on
-pub record ToKeep (ws : List ℕ) (start to : ℕ) : Type 0 where
-  pub few : size ws ≤ 256
-  pub within : start ≤ size ws
-  pub room : to + (size ws - start) ≤ 256
+-- an old paragraph's records from record `source` on are to be a new one's from record `target` on
+pub record ToKeep (ws : List ℕ) (source target : ℕ) : Type 0 where
+  pub few : recordCount ws ≤ mostRecords
+  pub within : source ≤ recordCount ws
+  pub room : target + (recordCount ws - source) ≤ mostRecords
 
--- its rows are moved from the first record on with which a unit starts; in the new paragraph that is record r
-pub record KeptFrom (ws : List ℕ) (start to : ℕ) (ds gs os ds′ gs′ os′ : List ℕ) (r : ℕ) : Type 0 where
+-- its metrics are moved from the first record on with which a unit starts; in the new paragraph that is record `kept`
+pub record KeptFrom (ws : List ℕ) (source target : ℕ) (ds₀ gs₀ os₀ ds gs os : List ℕ) (kept : ℕ) : Type 0 where
   pub first : ℕ
-  pub unit : UnitFrom ws start first
-  pub place : r ≡ to + (first - start)
-  pub moved : RowsMoved ds gs os first r (size ws - first) ds′ gs′ os′
+  pub unit : UnitFrom ws source first
+  pub place : kept ≡ target + (first - source)
+  pub moved : MetricsMoved first kept (recordCount ws - first) ds₀ gs₀ os₀ ds gs os

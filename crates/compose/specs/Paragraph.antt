@@ -1,7 +1,7 @@
 -- A paragraph as the program holds it, six words to a record, and its units by their first record.
 --
---   size         the number of records
---   from         the units of the records from record i on
+--   recordCount  the number of records
+--   unitsFrom    the units of the records from record i on
 --   unitAt       the unit that starts with record i; nextAt: the record after it
 --   checked      a paragraph of at most 256 records, to which answers 8, 12 and 9 do not apply
 --
@@ -11,33 +11,34 @@ use Prim.Native.Nat.{ℕ, _+_, _-_, _/_, _≤_}
 use mathlib.Core.List.{List, [], _∷_}
 use mathlib.Core.Option.{Option, none, some}
 use lib.ListN.{length}
+use Rattle.rules.specs.Layout.{mostRecords, recordLength}
 use Rattle.rules.specs.Basics.{alone}
 use Rattle.rules.specs.Records.{Rec, recAt, records, badRecord}
 use Rattle.rules.specs.Listed.{notListed}
 use Rattle.rules.specs.Groups.{TextUnit, units, count, groupFault}
 
-abbrev pub size : List ℕ → ℕ
-size ws = length ws / 6
+abbrev pub recordCount : List ℕ → ℕ
+recordCount ws = length ws / recordLength
 
 -- the paragraph's records
 abbrev pub paragraph : List ℕ → List Rec
-paragraph ws = records ws 0 (size ws)
+paragraph ws = records ws 0 (recordCount ws)
 
-unfoldable pub from : List ℕ → ℕ → List TextUnit
-from ws i = units (records ws i (size ws - i))
+unfoldable pub unitsFrom : List ℕ → ℕ → List TextUnit
+unitsFrom ws i = units (records ws i (recordCount ws - i))
 
 abbrev pub headOr : {A : Type 0} → A → List A → A
 headOr a [] = a
 headOr a (b ∷ bs) = b
 
 unfoldable pub unitAt : List ℕ → ℕ → TextUnit
-unitAt ws i = headOr (alone (recAt ws i)) (from ws i)
+unitAt ws i = headOr (alone (recAt ws i)) (unitsFrom ws i)
 
 abbrev pub nextAt : List ℕ → ℕ → ℕ
 nextAt ws i = i + count (unitAt ws i)
 
 pub record Checked (ws : List ℕ) : Type 0 where
-  pub few : size ws ≤ 256
+  pub few : recordCount ws ≤ mostRecords
   pub sound : badRecord 0 (paragraph ws) ≡ none
   pub listed : notListed 0 (paragraph ws) ≡ none
   pub grouped : groupFault (paragraph ws) ≡ none

@@ -2,6 +2,8 @@
 ghost use mathlib.Core.Path.{_≡_};
 ghost use Rattle.compose.specs.LineFrom.{LineDue, LineFrom, ToBreak, BrokenTo};
 use rules::added;
+use rules::layout::MOST_RECORDS;
+use rules::layout::RECORD_WORDS;
 use rules::least_of;
 
 // A line that starts with some record: the record after it, where its units would end if they stood solid, and what
@@ -23,17 +25,17 @@ pub(crate) struct Stop {
 // and ends as soon as the measure is passed.
 pub(crate) fn longest_line(
     ws: &[u32],
-    advances: &[u32; 256],
-    gaps: &[u64; 256],
-    offsets: &[u32; 256],
+    advances: &[u32; MOST_RECORDS],
+    gaps: &[u64; MOST_RECORDS],
+    offsets: &[u32; MOST_RECORDS],
     i: usize,
     m: u32,
     x: u32,
 ) -> LineSums
     requires { ⌜ LineDue (now ws) (now advances) (now gaps) (now offsets) i m x ⌝ }
-    ensures { λ r. ⌜ LineFrom (now (ws .entry)) m x i r ⌝ }
+    ensures { λ r. ⌜ LineFrom (now (ws .entry)) i m x r ⌝ }
 {
-    let n = ws.len() / 6;
+    let n = ws.len() / RECORD_WORDS;
     let mut line = LineSums {
         end: i,
         solid: x,
@@ -64,17 +66,17 @@ pub(crate) fn longest_line(
 // Writes the first record of each line. Line 0 starts at `x`.
 pub(crate) fn break_lines(
     ws: &[u32],
-    advances: &[u32; 256],
-    gaps: &[u64; 256],
-    offsets: &[u32; 256],
+    advances: &[u32; MOST_RECORDS],
+    gaps: &[u64; MOST_RECORDS],
+    offsets: &[u32; MOST_RECORDS],
     m: u32,
     x: u32,
-    starts: &mut [u32; 256],
+    starts: &mut [u32; MOST_RECORDS],
 ) -> Stop
     requires { ⌜ ToBreak (now ws) (now advances) (now gaps) (now offsets) m x ⌝ }
     ensures { λ r. ⌜ BrokenTo (now (ws .entry)) m x (now (starts .exit)) r ⌝ }
 {
-    let n = ws.len() / 6;
+    let n = ws.len() / RECORD_WORDS;
     // lent as a slice, so that the proof knows its length
     let out = &mut starts[..];
     let mut lines: usize = 0;

@@ -5,27 +5,35 @@ ghost use Prim.Native.Nat.{_<_};
 ghost use Rattle.rules.specs.Records.{recAt, badRecord};
 ghost use Rattle.rules.specs.Listed.{notListed};
 ghost use Rattle.rules.specs.Groups.{joins, groupFault};
-ghost use Rattle.rules.specs.Values.{recordOf, classTable};
-ghost use Rattle.compose.specs.Paragraph.{size, paragraph, placeOr};
+ghost use Rattle.rules.specs.Structs.{recordOf};
+ghost use Rattle.rules.specs.Tables.{classTable};
+ghost use Rattle.compose.specs.Paragraph.{recordCount, paragraph, placeOr};
 ghost use Rattle.compose.specs.Scan.{Fine};
 use lists::in_list;
 use rules::Record;
 use rules::class_table;
+use rules::layout::ADVANCE;
+use rules::layout::CLASS;
+use rules::layout::GROUP;
+use rules::layout::RECORD_WORDS;
+use rules::layout::RUBY_COUNT;
+use rules::layout::SIZE;
+use rules::limits::MOST_GROUPED;
 use rules::record_ok;
 
 // Record `i` of a paragraph.
 pub(crate) fn record_at(ws: &[u32], i: usize) -> Record
-    requires { ⌜ i < size (now ws) ⌝ }
+    requires { ⌜ i < recordCount (now ws) ⌝ }
     ensures { λ r. ⌜ recordOf r ≡ recAt (now (ws .entry)) i ⌝ }
 {
-    let a = 6 * i;
+    let a = RECORD_WORDS * i;
     Record {
         code: ws[a],
-        class: ws[a + 1],
-        size: ws[a + 2],
-        advance: ws[a + 3],
-        group: ws[a + 4],
-        ruby: ws[a + 5],
+        class: ws[a + CLASS],
+        size: ws[a + SIZE],
+        advance: ws[a + ADVANCE],
+        group: ws[a + GROUP],
+        ruby: ws[a + RUBY_COUNT],
     }
 }
 
@@ -42,9 +50,9 @@ pub(crate) fn is_fine(r: Record, classes: &[u8; 28]) -> bool
 
 // The first record that breaks its own rules, or how many there are.
 pub(crate) fn first_bad_record(ws: &[u32]) -> usize
-    ensures { λ r. ⌜ r ≡ placeOr (size (now (ws .entry))) (badRecord 0 (paragraph (now (ws .entry)))) ⌝ }
+    ensures { λ r. ⌜ r ≡ placeOr (recordCount (now (ws .entry))) (badRecord 0 (paragraph (now (ws .entry)))) ⌝ }
 {
-    let n = ws.len() / 6;
+    let n = ws.len() / RECORD_WORDS;
     // laid down once for all records
     let classes = class_table();
     let mut i = 0;
@@ -59,9 +67,9 @@ pub(crate) fn first_bad_record(ws: &[u32]) -> usize
 
 // The first record whose class's list lacks its code point, or how many there are.
 pub(crate) fn first_not_listed(ws: &[u32]) -> usize
-    ensures { λ r. ⌜ r ≡ placeOr (size (now (ws .entry))) (notListed 0 (paragraph (now (ws .entry)))) ⌝ }
+    ensures { λ r. ⌜ r ≡ placeOr (recordCount (now (ws .entry))) (notListed 0 (paragraph (now (ws .entry)))) ⌝ }
 {
-    let n = ws.len() / 6;
+    let n = ws.len() / RECORD_WORDS;
     let mut i = 0;
     while i < n {
         let r = record_at(ws, i);
@@ -82,9 +90,9 @@ pub(crate) fn same_group(g: u32, h: u32) -> bool
 
 // The first record that breaks a group's rule, or how many there are.
 pub(crate) fn first_group_fault(ws: &[u32]) -> usize
-    ensures { λ r. ⌜ r ≡ placeOr (size (now (ws .entry))) (groupFault (paragraph (now (ws .entry)))) ⌝ }
+    ensures { λ r. ⌜ r ≡ placeOr (recordCount (now (ws .entry))) (groupFault (paragraph (now (ws .entry)))) ⌝ }
 {
-    let n = ws.len() / 6;
+    let n = ws.len() / RECORD_WORDS;
     let mut i = 1;
     // how many records of its group stand up to the one before `i`
     let mut count: u32 = 1;
@@ -95,7 +103,7 @@ pub(crate) fn first_group_fault(ws: &[u32]) -> usize
             if !((p.size == r.size) & (p.ruby == r.ruby)) {
                 return i;
             }
-            if count < 16 {
+            if count < MOST_GROUPED as u32 {
                 count += 1;
             } else {
                 return i;

@@ -3,13 +3,12 @@ mod adjustment;
 mod breaking;
 mod checks;
 mod kept;
+mod metrics;
 mod paragraph;
 mod places;
-mod rows;
 mod scan;
 mod units;
 
-pub use kept::keep_rows;
-pub use paragraph::Answer;
+pub use kept::keep_metrics;
 pub use paragraph::check;
 pub use paragraph::compose;

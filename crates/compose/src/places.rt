@@ -4,9 +4,11 @@ ghost use mathlib.Core.List.{[], _∷_};
 ghost use Prim.Native.Nat.{_+_, _*_, _-_, _≤_};
 ghost use lib.ListN.{length};
 ghost use lib.Seq.{paste};
-ghost use Rattle.rules.specs.Values.{gapFrom};
-ghost use Rattle.compose.specs.Adjusted.{amountsFrom, LineToPlace, linePlaces, LineToCompose, LineComposed};
-ghost use Rattle.compose.specs.Adjusted.{ToCompose, ComposedTo};
+ghost use Rattle.rules.specs.Layout.{placeLength, lineLength};
+ghost use Rattle.rules.specs.Structs.{gapFrom};
+ghost use Rattle.compose.specs.Rates.{amountsFrom};
+ghost use Rattle.compose.specs.Places.{LineToPlace, linePlaces, LineToCompose, LineComposed};
+ghost use Rattle.compose.specs.Places.{ToCompose, ComposedTo};
 use crate::adjustment::Rates;
 use crate::adjustment::Stages;
 use crate::adjustment::line_amounts;
@@ -18,14 +20,19 @@ use crate::breaking::Stop;
 use crate::breaking::longest_line;
 use rules::Gap;
 use rules::added;
+use rules::layout::LINE_WORDS;
+use rules::layout::MOST_RECORDS;
+use rules::layout::PLACE_WORDS;
+use rules::layout::RECORD_WORDS;
 use rules::unpack;
 
-// Writes the place of record `b`.
-fn put_place(places: &mut [u32], b: usize, x: u32, line: u32)
-    requires { ⌜ 2 * b + 2 ≤ length (now places) ⌝ }
-    ensures { λ _. ⌜ now (places .exit) ≡ paste (now (places .entry)) (2 * b) (x ∷ line ∷ []) 2 ⌝ }
+// Writes the place of record `k`.
+fn put_place(k: usize, x: u32, line: u32, places: &mut [u32])
+    requires { ⌜ placeLength * k + placeLength ≤ length (now places) ⌝ }
+    ensures { λ _. ⌜ now (places .exit) ≡
+        paste (now (places .entry)) (placeLength * k) (x ∷ line ∷ []) placeLength ⌝ }
 {
-    let at = 2 * b;
+    let at = PLACE_WORDS * k;
     places[at] = x;
     places[at + 1] = line;
 }
@@ -33,9 +40,9 @@ fn put_place(places: &mut [u32], b: usize, x: u32, line: u32)
 // Writes the places of the line of the records from `i` up to `j`, which starts at `x`.
 fn place_line(
     ws: &[u32],
-    advances: &[u32; 256],
-    gaps: &[u64; 256],
-    offsets: &[u32; 256],
+    advances: &[u32; MOST_RECORDS],
+    gaps: &[u64; MOST_RECORDS],
+    offsets: &[u32; MOST_RECORDS],
     i: usize,
     j: usize,
     line: u32,
@@ -45,10 +52,10 @@ fn place_line(
     c: Gap,
     places: &mut [u32],
 )
-    requires { ⌜ LineToPlace (now ws) (now advances) (now gaps) (now offsets) (now places) i j x
-        rates (amountsFrom e) (gapFrom c) ⌝ }
-    ensures { λ _. ⌜ now (places .exit) ≡ paste (now (places .entry)) (2 * i)
-        (linePlaces (now (ws .entry)) i j line x (amountsFrom e) (gapFrom c)) (2 * (j - i)) ⌝ }
+    requires { ⌜ LineToPlace (now ws) (now advances) (now gaps) (now offsets) i j x rates
+        (amountsFrom e) (gapFrom c) (now places) ⌝ }
+    ensures { λ _. ⌜ now (places .exit) ≡ paste (now (places .entry)) (placeLength * i)
+        (linePlaces (now (ws .entry)) i j line x (amountsFrom e) (gapFrom c)) (placeLength * (j - i)) ⌝ }
 {
     // where the units before would end if they stood solid, and what the gaps up to here add up to
     let mut solid = x;
@@ -56,7 +63,7 @@ fn place_line(
     let mut k = i;
     while k < j {
         let at = place_at(rates, e, c, solid, sums);
-        put_place(places, k, at + offsets[k], line);
+        put_place(k, at + offsets[k], line, places);
         solid += advances[k] / 2;
         sums = added(sums, gaps[k]);
         k += 1;
@@ -64,11 +71,12 @@ fn place_line(
 }
 
 // Writes the words of line `k`.
-fn put_line(lines: &mut [u32], k: usize, first: u32, end: u32, kind: u32)
-    requires { ⌜ 3 * k + 3 ≤ length (now lines) ⌝ }
-    ensures { λ _. ⌜ now (lines .exit) ≡ paste (now (lines .entry)) (3 * k) (first ∷ end ∷ kind ∷ []) 3 ⌝ }
+fn put_line(k: usize, first: u32, end: u32, kind: u32, lines: &mut [u32])
+    requires { ⌜ lineLength * k + lineLength ≤ length (now lines) ⌝ }
+    ensures { λ _. ⌜ now (lines .exit) ≡
+        paste (now (lines .entry)) (lineLength * k) (first ∷ end ∷ kind ∷ []) lineLength ⌝ }
 {
-    let at = 3 * k;
+    let at = LINE_WORDS * k;
     lines[at] = first;
     lines[at + 1] = end;
     lines[at + 2] = kind;
@@ -77,25 +85,25 @@ fn put_line(lines: &mut [u32], k: usize, first: u32, end: u32, kind: u32)
 // Composes line `k`, which starts with record `i`: its places, and first record, end x and kind.
 fn compose_line(
     ws: &[u32],
-    advances: &[u32; 256],
-    gaps: &[u64; 256],
-    offsets: &[u32; 256],
+    advances: &[u32; MOST_RECORDS],
+    gaps: &[u64; MOST_RECORDS],
+    offsets: &[u32; MOST_RECORDS],
     i: usize,
-    line: LineSums,
     k: usize,
     m: u32,
     x: u32,
     last: bool,
+    line: LineSums,
     places: &mut [u32],
     lines: &mut [u32],
 )
-    requires { ⌜ LineToCompose (now ws) (now advances) (now gaps) (now offsets) (now places) (now lines) i line
-        k m x ⌝ }
-    ensures { λ _. ⌜ LineComposed (now (ws .entry)) (now (places .entry)) (now (lines .entry)) (now (places .exit))
-        (now (lines .exit)) i (line .end) k m x last ⌝ }
+    requires { ⌜ LineToCompose (now ws) (now advances) (now gaps) (now offsets) i k m x
+        line (now places) (now lines) ⌝ }
+    ensures { λ _. ⌜ LineComposed (now (ws .entry)) i (line .end) k
+        m x last (now (places .entry)) (now (lines .entry)) (now (places .exit)) (now (lines .exit)) ⌝ }
 {
     let c = unpack(line.gaps);
-    let e = line_amounts(line.solid + c.space, m, last, c);
+    let e = line_amounts(m, line.solid + c.space, last, c);
     let rates = line_rates(e, c);
     place_line(
         ws,
@@ -112,26 +120,26 @@ fn compose_line(
         places,
     );
     let end = place_at(rates, e, c, line.solid, line.gaps);
-    put_line(lines, k, i as u32, end, line_kind(last, e, c));
+    put_line(k, i as u32, end, line_kind(last, e, c), lines);
 }
 
 // Breaks a paragraph into lines and composes them: writes the places of its records and the words of its lines. Line 0
 // starts at `x`.
 pub(crate) fn compose_lines(
     ws: &[u32],
-    advances: &[u32; 256],
-    gaps: &[u64; 256],
-    offsets: &[u32; 256],
+    advances: &[u32; MOST_RECORDS],
+    gaps: &[u64; MOST_RECORDS],
+    offsets: &[u32; MOST_RECORDS],
     m: u32,
     x: u32,
     places: &mut [u32],
     lines: &mut [u32],
 ) -> Stop
-    requires { ⌜ ToCompose (now ws) (now advances) (now gaps) (now offsets) (now places) (now lines) m x ⌝ }
+    requires { ⌜ ToCompose (now ws) (now advances) (now gaps) (now offsets) m x (now places) (now lines) ⌝ }
     ensures { λ r. ⌜ ComposedTo (now (ws .entry)) m x (now (places .entry)) (now (lines .entry)) (now (places .exit))
         (now (lines .exit)) r ⌝ }
 {
-    let n = ws.len() / 6;
+    let n = ws.len() / RECORD_WORDS;
     let mut k: usize = 0;
     let mut i: usize = 0;
     let mut start = x;
@@ -146,11 +154,11 @@ pub(crate) fn compose_lines(
             gaps,
             offsets,
             i,
-            line,
             k,
             m,
             start,
             line.end == n,
+            line,
             places,
             lines,
         );

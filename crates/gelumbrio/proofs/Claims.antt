@@ -5,38 +5,42 @@ use Prim.Native.Nat.{ℕ}
 use mathlib.Core.List.{List, map}
 use lib.ListN.{length, getD}
 use denote.Ref.{now}
+-- words of the rules
 use Rattle.rules.specs.Sheet.{clinicOf, slotAt}
+-- calls, the book and runs
 use Rattle.sheet.specs.Book.{SlotCall, reads, call-on, numberOf}
 use Rattle.sheet.specs.Meanings.{Outside, AlikeFor, LeftAlike, By}
 use Rattle.sheet.specs.FreeSlots.{OnlyTaken}
-use Rattle.sheet.specs.declared.Clinic.{Clinic}
-use Rattle.sheet.specs.declared.SlotNumber.{SlotNumber}
-use Rattle.sheet.proofs.Runs.{SetUpRun, TakeRun, GiveBackRun, EditRun, ImportRun, PartRun, NumberRun}
-use Rattle.sheet.proofs.Runs.{takeReply, call, before, after, reply, EitherOrder, Chained}
-use Rattle.sheet.proofs.Booked.{Begun, AsBooked}
-use Rattle.sheet.proofs.Claims as sheet
+use Rattle.sheet.specs.declared.entry.Clinic.{Clinic}
+use Rattle.sheet.specs.declared.entry.SlotNumber.{SlotNumber}
+use Rattle.sheet.proofs.Demand3.{SetUpRun, TakeRun, GiveBackRun, EditRun, ImportRun, PartRun, NumberRun, call, before}
+use Rattle.sheet.proofs.Demand3.{after, reply, Chained, Begun, AsBooked}
+use Rattle.sheet.proofs.Runs.{takeReply, EitherOrder}
 use Rattle.gelumbrio.proofs.Exports.{SetUpExport, TakeExport, GiveBackExport, EditExport, ImportExport}
 use Rattle.gelumbrio.proofs.Exports.{PartExport, NumberExport}
 use Rattle.gelumbrio.proofs.Exports.{Export, handed}
+-- the contracts
 use Rattle.gelumbrio.proofs.gelumbrio_set_up.Statement as set-up-contract
-use Rattle.gelumbrio.proofs.gelumbrio_set_up.Met as set-up-met
 use Rattle.gelumbrio.proofs.gelumbrio_take.Statement as take-contract
-use Rattle.gelumbrio.proofs.gelumbrio_take.Met as take-met
 use Rattle.gelumbrio.proofs.gelumbrio_give_back.Statement as give-back-contract
-use Rattle.gelumbrio.proofs.gelumbrio_give_back.Met as give-back-met
 use Rattle.gelumbrio.proofs.gelumbrio_edit.Statement as edit-contract
-use Rattle.gelumbrio.proofs.gelumbrio_edit.Met as edit-met
 use Rattle.gelumbrio.proofs.gelumbrio_import.Statement as import-contract
-use Rattle.gelumbrio.proofs.gelumbrio_import.Met as import-met
 use Rattle.gelumbrio.proofs.gelumbrio_read.Statement as read-contract
-use Rattle.gelumbrio.proofs.gelumbrio_read.Met as read-met
 use Rattle.gelumbrio.proofs.gelumbrio_read_number.Statement as read-number-contract
-use Rattle.gelumbrio.proofs.gelumbrio_read_number.Met as read-number-met
 use Rattle.gelumbrio.proofs.gelumbrio_ruby_place.Statement as ruby-place-contract
-use Rattle.gelumbrio.proofs.gelumbrio_ruby_place.Met as ruby-place-met
 use Rattle.gelumbrio.proofs.gelumbrio_in_list.Statement as in-list-contract
-use Rattle.gelumbrio.proofs.gelumbrio_in_list.Met as in-list-met
 use Rattle.gelumbrio.proofs.gelumbrio_class_of.Statement as class-of-contract
+-- what proves the claims
+use Rattle.sheet.proofs.Claims as sheet
+use Rattle.gelumbrio.proofs.gelumbrio_set_up.Met as set-up-met
+use Rattle.gelumbrio.proofs.gelumbrio_take.Met as take-met
+use Rattle.gelumbrio.proofs.gelumbrio_give_back.Met as give-back-met
+use Rattle.gelumbrio.proofs.gelumbrio_edit.Met as edit-met
+use Rattle.gelumbrio.proofs.gelumbrio_import.Met as import-met
+use Rattle.gelumbrio.proofs.gelumbrio_read.Met as read-met
+use Rattle.gelumbrio.proofs.gelumbrio_read_number.Met as read-number-met
+use Rattle.gelumbrio.proofs.gelumbrio_ruby_place.Met as ruby-place-met
+use Rattle.gelumbrio.proofs.gelumbrio_in_list.Met as in-list-met
 use Rattle.gelumbrio.proofs.gelumbrio_class_of.Met as class-of-met
 
 -- Demand 1 ----------------------------------------------------------------------------------------------------------

@@ -1,8 +1,8 @@
 -- Runs of the exports, of which the claims speak: arguments, result, parameters at exit, and what the export's own
 -- contract promises of these. Assumes nothing.
-use denote.Ref.{now}
-use Rattle.sheet.proofs.Runs.{Ran, Together, Run, set-up-run, take-run, give-back-run, edit-run, import-run}
-use Rattle.sheet.proofs.Runs.{read-part-run}
+use Rattle.sheet.proofs.Demand3.{Ran, partLook, numberLook, Together, CallRun, set-up-run, take-run, give-back-run}
+use Rattle.sheet.proofs.Demand3.{edit-run, import-run}
+use Rattle.sheet.proofs.Demand3.{read-part-run}
 use Rattle.gelumbrio.proofs.gelumbrio_set_up.Kinds as set-up-kinds
 use Rattle.gelumbrio.proofs.gelumbrio_set_up.Reads as set-up-reads
 use Rattle.gelumbrio.proofs.gelumbrio_take.Kinds as take-kinds
@@ -43,8 +43,7 @@ NumberExport = Ran 1 number-kinds.ps number-kinds.r number-reads.Learnt
 pub record ReadExport : Type 0 where
   pub part : PartExport
   pub number : NumberExport
-  pub together : Together (now (part .args .0)) (now (part .exit .0)) (now (number .args .0)) (now (number .exit .0))
-      (part .args .1 .0) (number .args .1 .0) (part .args .1 .1 .0) (number .args .1 .1 .0)
+  pub together : Together (partLook part) (numberLook number)
 
 pub data Export : Type 0 where
   set-up-export : SetUpExport → Export
@@ -55,7 +54,7 @@ pub data Export : Type 0 where
   read-export : ReadExport → Export
 
 -- an export's run is one of the call that it hands on: the two contracts are the same statement
-abbrev pub handed : Export → Run
+abbrev pub handed : Export → CallRun
 handed (set-up-export u) = set-up-run u
 handed (take-export u) = take-run u
 handed (give-back-export u) = give-back-run u

@@ -1,7 +1,8 @@
 -- What is proved of leaflets (document 02, request 05), in reading order: of texts and answer 17's place, which speak
 -- of no reader; of the records that an import hands to edit; of the reader; and of the program. The definitions that
--- the statements name are those of specs/Utf8, Items, Contents, Faults and Imported; `firstChar` of proofs/Nexts, the
--- rows of Unicode's table; and, from the reader on, `read`, `faultIn` and `wordsIn` of specs/Reader. Assumes nothing.
+-- the statements name are those of specs/Utf8, Items, Contents, Faults and Imported; `firstChar` of proofs/NextItem,
+-- the rows of Unicode's table; and, from the reader on, `read`, `faultIn` and `wordsIn` of specs/Reader. Assumes
+-- nothing.
 use mathlib.Core.Path.{_≡_, sym, ap, _∙_}
 use Prim.Native.Nat.{ℕ}
 use mathlib.Core.Bool.{true}
@@ -19,13 +20,13 @@ use Rattle.leaflet.specs.Faults.{Fault, Standing}
 use Rattle.leaflet.specs.Imported.{advanceOf, importedRecords}
 use Rattle.leaflet.specs.Decoding.{found}
 use Rattle.leaflet.specs.Reader.{parts, fault, faultIn, read, wordsIn}
-use Rattle.leaflet.proofs.Readings.{spell-same}
-use Rattle.leaflet.proofs.Nexts.{firstChar}
-use Rattle.leaflet.proofs.Ends.{items-spelt, accepted, refused, told, place-only}
+use Rattle.leaflet.proofs.OneContent.{spell-same}
+use Rattle.leaflet.proofs.NextItem.{firstChar}
+use Rattle.leaflet.proofs.AcceptedOrFault.{items-spelt, accepted, refused, told, place-only}
 use Rattle.leaflet.proofs.Standings.{standing}
-use Rattle.leaflet.proofs.Answers.{first-told, words-told, parts-told, fault-told, none-told, some-told}
-use Rattle.leaflet.proofs.OwnLists.{some-list}
-use Rattle.leaflet.proofs.Imports.{records-listed, advance-fits, records-ok}
+use Rattle.leaflet.proofs.ReadAnswers.{first-told, words-told, parts-told, fault-told, none-told, some-told}
+use Rattle.leaflet.proofs.ListedCodes.{some-list}
+use Rattle.leaflet.proofs.ImportedRecords.{records-listed, advance-fits, records-ok}
 use Rattle.leaflet.proofs.Worked.{bytesOf, right}
 use Rattle.leaflet.proofs.Examples.{texts, texts-hold, small, small-words, words-hold}
 use Rattle.leaflet.proofs.reader.read_leaflet.Statement as read-leaflet-contract

@@ -10,26 +10,26 @@
 -- Assumes nothing.
 use Prim.Native.Nat.{ℕ}
 use Prim.Native.Char.{code}
-use Prim.Native.String.{String, [] as no-more, _∷_ as _then_}
+use Prim.Native.String.{String, [] as []ₛ, _∷_ as _∷ₛ_}
 use mathlib.Core.Bool.{Bool, true, false, _&&_}
 use mathlib.Core.List.{List, [], _∷_, _++_, map}
 use lib.Dec.{eqb}
 use lib.ListN.{length}
 use Rattle.lists.specs.Lists.{lists, inList, classOf}
-use Rattle.lists.proofs.Facts.{same}
+use Rattle.lists.proofs.Decisions.{same}
 use Rattle.rules.specs.Basics.{whole}
 use Rattle.rules.specs.Records.{codeOk, advanceKind, recordWords}
 use Rattle.leaflet.specs.Utf8.{utf8}
 use Rattle.leaflet.specs.Items.{tagBytes, itemBytes}
-use Rattle.leaflet.specs.Contents.{listed, text, plain, Part, character, annotated}
+use Rattle.leaflet.specs.Contents.{listed, textChar, plainChar, Part, character, annotated}
 use Rattle.leaflet.specs.Imported.{asWord, advanceOf, recordsAfter}
 use Rattle.leaflet.specs.Decoding.{two, three, four, nextChar, strip, nextTag, next}
 use Rattle.leaflet.specs.Spots.{step}
 use Rattle.leaflet.specs.Reader.{scan, faultIn, itemsOf, gathered, partsIn, Answer, parts, fault, read, wordsIn}
 
 abbrev codes : String → List ℕ
-codes no-more = []
-codes (c then s) = code c ∷ codes s
+codes []ₛ = []
+codes (c ∷ₛ s) = code c ∷ codes s
 
 abbrev encoded : List ℕ → List ℕ
 encoded [] = []
@@ -86,6 +86,7 @@ right (r ∷ rs) = rightRow r && right rs
 
 unfoldable pub computed : Unit {0}
 unfolding
-    lists inList classOf codeOk advanceKind recordWords utf8 tagBytes itemBytes listed text plain asWord advanceOf
-    recordsAfter two three four nextChar strip nextTag next step scan faultIn itemsOf gathered partsIn read wordsIn
+    lists inList classOf codeOk advanceKind recordWords utf8 tagBytes itemBytes listed textChar plainChar asWord
+    advanceOf recordsAfter two three four nextChar strip nextTag next step scan faultIn itemsOf gathered partsIn read
+    wordsIn
 computed = tt

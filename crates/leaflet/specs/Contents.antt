@@ -1,10 +1,10 @@
 -- Document 02, request 05: what a leaflet says, how it is written, and how it is read. Nothing here speaks of a reader.
 --
 --   listed       some list of request 04 has the code point: it gets a class
---   text         what may stand inside rt and rp: "any code point but angle brackets and ampersands"
---   plain        what may stand outside them: text that is listed
---   over         what stands over a base text: an rt, bare, or fenced by an rp on both sides
---   piece        a plain character, or a ruby element: a base text and what stands over it
+--   text char    what may stand inside rt and rp: "any code point but angle brackets and ampersands"
+--   plain char   what may stand outside them: such a code point that is listed
+--   annotation   what stands over a base text: an rt, bare, or fenced by an rp on both sides
+--   piece        a plain character, or a ruby element: a base text and its annotation
 --   content      pieces; `spell` writes it as items
 --   proper       every character may stand where it stands
 --   accepted     the text of a proper content
@@ -21,33 +21,32 @@ use lib.ListN.{length}
 use Rattle.lists.specs.Lists.{classOf}
 use Rattle.rules.specs.Basics.{Run, whole}
 use Rattle.rules.specs.Records.{codeOk}
-use Rattle.leaflet.specs.Items.{Item, char, tag, Tag, bytes}
+use Rattle.leaflet.specs.Items.{Item, char, tag, Tag, lessThan, greaterThan, ampersand, bytes}
 
 unfoldable pub listed : ℕ → Bool
 listed c = not (eqb (classOf c) 0)
 
--- < > &
 abbrev pub bracket : ℕ → Bool
-bracket c = eqb c 60 || eqb c 62 || eqb c 38
+bracket c = eqb c lessThan || eqb c greaterThan || eqb c ampersand
 
 -- "inside them any code point but angle brackets and ampersands may, each as one character"
-unfoldable pub text : ℕ → Bool
-text c = codeOk c && not (bracket c)
+unfoldable pub textChar : ℕ → Bool
+textChar c = codeOk c && not (bracket c)
 
 -- "A base or plain character in no list .. is refused", and "every other angle bracket or ampersand" too, though the
 -- list of Western characters has them
-unfoldable pub plain : ℕ → Bool
-plain c = text c && listed c
+unfoldable pub plainChar : ℕ → Bool
+plainChar c = textChar c && listed c
 
 -- "An rp, empty or not, stands on both sides of the rt or on neither"
-pub data Over : Type 0 where
-  bare : Run ℕ → Over
-  fenced : List ℕ → Run ℕ → List ℕ → Over
+pub data Annotation : Type 0 where
+  bare : Run ℕ → Annotation
+  fenced : List ℕ → Run ℕ → List ℕ → Annotation
 
 -- "Each ruby element holds one base text and one rt, neither empty"; "no nesting"
 pub data Piece : Type 0 where
   single : ℕ → Piece
-  group : Run ℕ → Over → Piece
+  group : Run ℕ → Annotation → Piece
 
 -- characters, and then other items
 abbrev pub chars : List ℕ → List Item → List Item
@@ -55,30 +54,30 @@ chars [] is = is
 chars (c ∷ cs) is = char c ∷ chars cs is
 
 -- "After the base text no other text, not even white space, stands outside rt and rp"
-abbrev pub spellOver : Over → List Item → List Item
-spellOver (bare t) is = tag Tag.rt ∷ chars (whole t) (tag Tag.rt-end ∷ is)
-spellOver (fenced p t q) is =
+abbrev pub spellAnnotation : Annotation → List Item → List Item
+spellAnnotation (bare t) is = tag Tag.rt ∷ chars (whole t) (tag Tag.rt-end ∷ is)
+spellAnnotation (fenced p t q) is =
     tag Tag.rp ∷ chars p (tag Tag.rp-end ∷ tag Tag.rt ∷ chars (whole t) (tag Tag.rt-end ∷
     tag Tag.rp ∷ chars q (tag Tag.rp-end ∷ is)))
 
 unfoldable pub spell : List Piece → List Item
 spell [] = []
 spell (single c ∷ ps) = char c ∷ spell ps
-spell (group b o ∷ ps) = tag Tag.ruby ∷ chars (whole b) (spellOver o (tag Tag.ruby-end ∷ spell ps))
+spell (group b o ∷ ps) = tag Tag.ruby ∷ chars (whole b) (spellAnnotation o (tag Tag.ruby-end ∷ spell ps))
 
 -- every code point passes a test
 abbrev pub Each : (ℕ → Bool) → List ℕ → Type 0
 Each f [] = Unit {0}
 Each f (c ∷ cs) = (f c ≡ true) × Each f cs
 
-abbrev pub ProperOver : Over → Type 0
-ProperOver (bare t) = Each text (whole t)
-ProperOver (fenced p t q) = Each text p × Each text (whole t) × Each text q
+abbrev pub ProperAnnotation : Annotation → Type 0
+ProperAnnotation (bare t) = Each textChar (whole t)
+ProperAnnotation (fenced p t q) = Each textChar p × Each textChar (whole t) × Each textChar q
 
 abbrev pub Proper : List Piece → Type 0
 Proper [] = Unit {0}
-Proper (single c ∷ ps) = (plain c ≡ true) × Proper ps
-Proper (group b o ∷ ps) = Each plain (whole b) × ProperOver o × Proper ps
+Proper (single c ∷ ps) = (plainChar c ≡ true) × Proper ps
+Proper (group b o ∷ ps) = Each plainChar (whole b) × ProperAnnotation o × Proper ps
 
 -- a text that is accepted, and the content that it spells
 pub record Spells (bs : List ℕ) (ps : List Piece) : Type 0 where
@@ -94,7 +93,7 @@ pub data Part : Type 0 where
   character : ℕ → Part
   annotated : (base : Run ℕ) (ruby : ℕ) → Part
 
-abbrev pub count : Over → ℕ
+abbrev pub count : Annotation → ℕ
 count (bare t) = length (whole t)
 count (fenced p t q) = length (whole t)
 

@@ -11,7 +11,7 @@ use mathlib.Core.List.{List, [], _∷_}
 use mathlib.Core.Option.{Option, none, some}
 use lib.Dec.{eqb, ltb}
 use Rattle.rules.specs.Basics.{within}
-use Rattle.leaflet.specs.Items.{Item, char, tag, Tag, tagBytes}
+use Rattle.leaflet.specs.Items.{Item, char, tag, Tag, lessThan, tagBytes}
 
 pub data Next : Type 0 where
   nothing : Next
@@ -23,8 +23,8 @@ low b = cond (eqb b 0xE0) 0xA0 (cond (eqb b 0xF0) 0x90 0x80)
 abbrev pub high : ℕ → ℕ
 high b = cond (eqb b 0xED) 0x9F (cond (eqb b 0xF4) 0x8F 0xBF)
 
-abbrev pub goesOn : ℕ → Bool
-goesOn x = within 0x80 0xBF x
+abbrev pub isContinuation : ℕ → Bool
+isContinuation x = within 0x80 0xBF x
 
 abbrev pub second : ℕ → ℕ → Bool
 second b x = within (low b) (high b) x
@@ -32,20 +32,20 @@ second b x = within (low b) (high b) x
 -- the rows of table 3-7 of two, three and four bytes, past the first
 unfoldable pub two : ℕ → List ℕ → Next
 two b [] = nothing
-two b (x ∷ bs) = cond (goesOn x) (found (char ((b - 192) * 64 + (x - 128))) bs) nothing
+two b (x ∷ bs) = cond (isContinuation x) (found (char ((b - 192) * 64 + (x - 128))) bs) nothing
 
 unfoldable pub three : ℕ → List ℕ → Next
 three b [] = nothing
 three b (x ∷ []) = nothing
 three b (x ∷ y ∷ bs) =
-    cond (second b x && goesOn y) (found (char ((b - 224) * 4096 + (x - 128) * 64 + (y - 128))) bs) nothing
+    cond (second b x && isContinuation y) (found (char ((b - 224) * 4096 + (x - 128) * 64 + (y - 128))) bs) nothing
 
 unfoldable pub four : ℕ → List ℕ → Next
 four b [] = nothing
 four b (x ∷ []) = nothing
 four b (x ∷ y ∷ []) = nothing
 four b (x ∷ y ∷ z ∷ bs) =
-    cond (second b x && goesOn y && goesOn z)
+    cond (second b x && isContinuation y && isContinuation z)
     (found (char ((b - 240) * 262144 + (x - 128) * 4096 + (y - 128) * 64 + (z - 128))) bs)
     nothing
 
@@ -78,4 +78,4 @@ allTags = Tag.ruby ∷ Tag.ruby-end ∷ Tag.rt ∷ Tag.rt-end ∷ Tag.rp ∷ Tag
 -- "every other angle bracket .. is refused, a tag cut short at its bracket"
 unfoldable pub next : List ℕ → Next
 next [] = nothing
-next (b ∷ bs) = cond (eqb b 60) (nextTag allTags (b ∷ bs)) (nextChar b bs)
+next (b ∷ bs) = cond (eqb b lessThan) (nextTag allTags (b ∷ bs)) (nextChar b bs)

@@ -17,7 +17,7 @@ use mathlib.Core.Bool.{true}
 use mathlib.Core.List.{List, [], _∷_, _++_}
 use lib.ListN.{length}
 use Rattle.rules.specs.Records.{codeOk}
-use Rattle.leaflet.specs.Items.{Item, char, tag, itemBytes, bytes}
+use Rattle.leaflet.specs.Items.{Item, char, tag, lessThan, itemBytes, bytes}
 use Rattle.leaflet.specs.Contents.{Piece, spell, Proper, Accepted}
 
 pub record Beginning (is : List Item) : Type 0 where
@@ -39,7 +39,7 @@ pub record Fault (bs : List ℕ) (k : ℕ) : Type 0 where
   pub place : k ≡ length (bytes passed)
 
 abbrev pub Element : Item → Type 0
-Element (char c) = (codeOk c ≡ true) × (c ≡ 60 → ⊥)
+Element (char c) = (codeOk c ≡ true) × (c ≡ lessThan → ⊥)
 Element (tag t) = Unit {0}
 
 -- after the longest beginning: the end, an element that no accepted text has there, or bytes that start none

@@ -16,8 +16,15 @@ use Rattle.rules.specs.Basics.{whole}
 use Rattle.rules.specs.Records.{Rec, recOf, AdvanceKind, half-size, to-size, to-twice, full-size, advanceKind}
 use Rattle.leaflet.specs.Contents.{Part, character, annotated}
 
+-- how many values a word has, and the largest
+abbrev pub wordValues : ℕ
+wordValues = 4294967296
+
+abbrev pub mostWord : ℕ
+mostWord = 4294967295
+
 unfoldable pub asWord : ℕ → ℕ
-asWord n = cond (ltb n 4294967296) n 4294967295
+asWord n = cond (ltb n wordValues) n mostWord
 
 -- class 3 is the one of advances up to the size, 27 of those up to twice the size
 abbrev pub advanceBy : AdvanceKind → ℕ → ℕ

@@ -16,14 +16,24 @@ pub data Item : Type 0 where
   char : ℕ → Item
   tag : Tag → Item
 
+-- < > &
+abbrev pub lessThan : ℕ
+lessThan = 0x3C
+
+abbrev pub greaterThan : ℕ
+greaterThan = 0x3E
+
+abbrev pub ampersand : ℕ
+ampersand = 0x26
+
 -- <ruby> </ruby> <rt> </rt> <rp> </rp>
 unfoldable pub tagBytes : Tag → List ℕ
-tagBytes ruby = 60 ∷ 114 ∷ 117 ∷ 98 ∷ 121 ∷ 62 ∷ []
-tagBytes ruby-end = 60 ∷ 47 ∷ 114 ∷ 117 ∷ 98 ∷ 121 ∷ 62 ∷ []
-tagBytes rt = 60 ∷ 114 ∷ 116 ∷ 62 ∷ []
-tagBytes rt-end = 60 ∷ 47 ∷ 114 ∷ 116 ∷ 62 ∷ []
-tagBytes rp = 60 ∷ 114 ∷ 112 ∷ 62 ∷ []
-tagBytes rp-end = 60 ∷ 47 ∷ 114 ∷ 112 ∷ 62 ∷ []
+tagBytes ruby = lessThan ∷ 114 ∷ 117 ∷ 98 ∷ 121 ∷ greaterThan ∷ []
+tagBytes ruby-end = lessThan ∷ 47 ∷ 114 ∷ 117 ∷ 98 ∷ 121 ∷ greaterThan ∷ []
+tagBytes rt = lessThan ∷ 114 ∷ 116 ∷ greaterThan ∷ []
+tagBytes rt-end = lessThan ∷ 47 ∷ 114 ∷ 116 ∷ greaterThan ∷ []
+tagBytes rp = lessThan ∷ 114 ∷ 112 ∷ greaterThan ∷ []
+tagBytes rp-end = lessThan ∷ 47 ∷ 114 ∷ 112 ∷ greaterThan ∷ []
 
 unfoldable pub itemBytes : Item → List ℕ
 itemBytes (char c) = utf8 c

@@ -53,7 +53,7 @@ abbrev pub itemsFrom : List ℕ → List Item
 itemsFrom bs = itemsOf (length bs) bs
 
 pub record Gathered : Type 0 where
-  pub letters : List ℕ
+  pub characters : List ℕ
   pub ruby : ℕ
   pub parts : List Part
 
@@ -67,20 +67,20 @@ grouped [] n ps = ps
 grouped (c ∷ cs) n ps = annotated (record { first = c; rest = cs }) n ∷ ps
 
 abbrev pub gather : Item → Gathered → Gathered
-gather (char c) g = record { letters = c ∷ g .letters; ruby = g .ruby; parts = g .parts }
-gather (tag Tag.ruby) g = record { letters = []; ruby = 0; parts = grouped (g .letters) (g .ruby) (g .parts) }
-gather (tag Tag.ruby-end) g = record { letters = []; ruby = 0; parts = singles (g .letters) (g .parts) }
-gather (tag Tag.rt) g = record { letters = []; ruby = length (g .letters); parts = g .parts }
-gather (tag Tag.rt-end) g = record { letters = []; ruby = 0; parts = g .parts }
-gather (tag Tag.rp) g = record { letters = []; ruby = g .ruby; parts = g .parts }
-gather (tag Tag.rp-end) g = record { letters = []; ruby = g .ruby; parts = g .parts }
+gather (char c) g = record { characters = c ∷ g .characters; ruby = g .ruby; parts = g .parts }
+gather (tag Tag.ruby) g = record { characters = []; ruby = 0; parts = grouped (g .characters) (g .ruby) (g .parts) }
+gather (tag Tag.ruby-end) g = record { characters = []; ruby = 0; parts = singles (g .characters) (g .parts) }
+gather (tag Tag.rt) g = record { characters = []; ruby = length (g .characters); parts = g .parts }
+gather (tag Tag.rt-end) g = record { characters = []; ruby = 0; parts = g .parts }
+gather (tag Tag.rp) g = record { characters = []; ruby = g .ruby; parts = g .parts }
+gather (tag Tag.rp-end) g = record { characters = []; ruby = g .ruby; parts = g .parts }
 
 unfoldable pub gathered : List Item → Gathered
-gathered [] = record { letters = []; ruby = 0; parts = [] }
+gathered [] = record { characters = []; ruby = 0; parts = [] }
 gathered (i ∷ is) = gather i (gathered is)
 
 unfoldable pub partsIn : List Item → List Part
-partsIn is = let g = gathered is in singles (g .letters) (g .parts)
+partsIn is = let g = gathered is in singles (g .characters) (g .parts)
 
 pub data Answer : Type 0 where
   parts : List Part → Answer

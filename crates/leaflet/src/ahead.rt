@@ -3,23 +3,24 @@ ghost use mathlib.Core.Path.{_≡_};
 ghost use Prim.Native.Nat.{_≤_};
 ghost use lib.ListN.{length, drop};
 ghost use Rattle.leaflet.specs.Reader.{itemsFrom};
-ghost use Rattle.leaflet.specs.Written.{letterRun, rtAhead};
+ghost use Rattle.leaflet.specs.Written.{charsBeforeTag, rtAhead};
 use crate::items::Found;
 use crate::items::item_at;
+use crate::spots::RT_TAG;
 use crate::spots::tag_number;
 
 // How many characters stand at an offset before a tag, or the end of what can be read.
-fn letter_run(s: &[u8], at: usize) -> usize
-    requires { ⌜ at ≤ length (now s) ⌝ }
-    ensures { λ r. ⌜ r ≡ letterRun (itemsFrom (drop at (now (s .entry)))) ⌝ }
+fn chars_before_tag(bs: &[u8], at: usize) -> usize
+    requires { ⌜ at ≤ length (now bs) ⌝ }
+    ensures { λ r. ⌜ r ≡ charsBeforeTag (itemsFrom (drop at (now (bs .entry)))) ⌝ }
 {
     let mut count: usize = 0;
     let mut i = at;
-    while i < s.len() {
-        match item_at(s, i) {
+    while i < bs.len() {
+        match item_at(bs, i) {
             Found::Nothing => return count,
             Found::Markup(_, _) => return count,
-            Found::Letter(_, width) => {
+            Found::Character(_, width) => {
                 count += 1;
                 i += width;
             }
@@ -29,21 +30,21 @@ fn letter_run(s: &[u8], at: usize) -> usize
 }
 
 // The character count of the next rt.
-pub(crate) fn rt_ahead(s: &[u8], at: usize) -> usize
-    requires { ⌜ at ≤ length (now s) ⌝ }
-    ensures { λ r. ⌜ r ≡ rtAhead (itemsFrom (drop at (now (s .entry)))) ⌝ }
+pub(crate) fn rt_ahead(bs: &[u8], at: usize) -> usize
+    requires { ⌜ at ≤ length (now bs) ⌝ }
+    ensures { λ r. ⌜ r ≡ rtAhead (itemsFrom (drop at (now (bs .entry)))) ⌝ }
 {
     let mut i = at;
-    while i < s.len() {
-        match item_at(s, i) {
+    while i < bs.len() {
+        match item_at(bs, i) {
             Found::Nothing => return 0,
             Found::Markup(t, width) => {
-                if tag_number(t) == 2 {
-                    return letter_run(s, i + width);
+                if tag_number(t) == RT_TAG {
+                    return chars_before_tag(bs, i + width);
                 }
                 i += width;
             }
-            Found::Letter(_, width) => {
+            Found::Character(_, width) => {
                 i += width;
             }
         }

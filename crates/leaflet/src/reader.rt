@@ -3,28 +3,29 @@ ghost use mathlib.Core.Path.{_≡_};
 ghost use Prim.Native.Nat.{_<_, _≤_};
 ghost use lib.ListN.{length, drop};
 ghost use Rattle.leaflet.specs.Reader.{faultFrom};
-ghost use Rattle.leaflet.specs.Values.{spotOf, pastOf, AheadAt, outcomeOf, filledAs, ReadAs};
+ghost use Rattle.leaflet.specs.Enums.{spotOf, withWidth, ItemStepAt, outcomeOf, fullReading, ReadAs};
 use crate::ahead::rt_ahead;
 use crate::groups::groups_past;
 use crate::groups::put_ruby;
+use crate::groups::put_ruby_past;
 use crate::groups::ruby_counted;
 use crate::groups::ruby_past;
-use crate::groups::settle;
 use crate::groups::start_past;
 use crate::items::Found;
 use crate::items::item_at;
 use crate::records::Put;
+use crate::records::ROOM;
 use crate::records::as_word;
-use crate::records::put_letter;
+use crate::records::put_character;
 use crate::spots::Spot;
 use crate::spots::Step;
 use crate::spots::after_char;
 use crate::spots::after_tag;
 use crate::spots::is_outside;
-use crate::spots::past_letter;
+use crate::spots::past_character;
 
-// What lies ahead of an offset.
-pub(crate) enum Ahead {
+// Where the item at an offset leads.
+pub(crate) enum ItemStep {
     // no item that may stand there
     Stopped,
     // past an item: the next spot, and the item's bytes
@@ -46,39 +47,39 @@ pub enum Reading {
     Words(usize),
 }
 
-// Past an item of some bytes, if it may stand where it stands.
-fn past(step: Step, width: usize) -> Ahead
-    ensures { λ r. ⌜ r ≡ pastOf step width ⌝ }
+// A step of an item of some bytes.
+fn with_width(step: Step, width: usize) -> ItemStep
+    ensures { λ r. ⌜ r ≡ withWidth step width ⌝ }
 {
     match step {
-        Step::To(p) => Ahead::Past(p, width),
-        Step::Refused => Ahead::Stopped,
+        Step::To(p) => ItemStep::Past(p, width),
+        Step::Refused => ItemStep::Stopped,
     }
 }
 
-// What lies ahead of an offset, for a reader at a spot.
-fn look(s: &[u8], at: usize, q: Spot) -> Ahead
-    requires { ⌜ at < length (now s) ⌝ }
-    ensures { λ r. ⌜ AheadAt (now (s .entry)) at (spotOf q) r ⌝ }
+// Where the item at an offset leads a reader at a spot.
+fn step_at(bs: &[u8], at: usize, q: Spot) -> ItemStep
+    requires { ⌜ at < length (now bs) ⌝ }
+    ensures { λ r. ⌜ ItemStepAt (now (bs .entry)) at (spotOf q) r ⌝ }
 {
-    match item_at(s, at) {
-        Found::Nothing => Ahead::Stopped,
-        Found::Letter(c, width) => past(after_char(q, c), width),
-        Found::Markup(t, width) => past(after_tag(q, t), width),
+    match item_at(bs, at) {
+        Found::Nothing => ItemStep::Stopped,
+        Found::Character(c, width) => with_width(after_char(q, c), width),
+        Found::Markup(t, width) => with_width(after_tag(q, t), width),
     }
 }
 
 // Answer 17's place from an offset on, if it is due.
-fn fault_from(s: &[u8], start: usize, spot: Spot) -> Outcome
-    requires { ⌜ start ≤ length (now s) ⌝ }
-    ensures { λ r. ⌜ outcomeOf r ≡ faultFrom (spotOf spot) start (drop start (now (s .entry))) ⌝ }
+fn fault_from(bs: &[u8], start: usize, spot: Spot) -> Outcome
+    requires { ⌜ start ≤ length (now bs) ⌝ }
+    ensures { λ r. ⌜ outcomeOf r ≡ faultFrom (spotOf spot) start (drop start (now (bs .entry))) ⌝ }
 {
     let mut q = spot;
     let mut at = start;
-    while at < s.len() {
-        match look(s, at, q) {
-            Ahead::Stopped => return Outcome::Fault(at),
-            Ahead::Past(p, width) => {
+    while at < bs.len() {
+        match step_at(bs, at, q) {
+            ItemStep::Stopped => return Outcome::Fault(at),
+            ItemStep::Past(p, width) => {
                 q = p;
                 at += width;
             }
@@ -91,8 +92,8 @@ fn fault_from(s: &[u8], start: usize, spot: Spot) -> Outcome
 }
 
 // A reading for which there is no more room after `i` words.
-fn filled(outcome: Outcome, i: usize) -> Reading
-    ensures { λ r. ⌜ r ≡ filledAs outcome i ⌝ }
+fn full_reading(outcome: Outcome, i: usize) -> Reading
+    ensures { λ r. ⌜ r ≡ fullReading outcome i ⌝ }
 {
     match outcome {
         Outcome::Whole => Reading::Words(i),
@@ -102,8 +103,8 @@ fn filled(outcome: Outcome, i: usize) -> Reading
 
 // Reads a text into words of records of a size. There is room for one record more than a slot holds, so that edit
 // finds them too many; what comes after it is read for faults alone.
-pub fn read_leaflet(s: &[u8], size: u32, words: &mut [u32; 1542]) -> Reading
-    ensures { λ r. ⌜ ReadAs (now (s .entry)) size (now (words .exit)) r ⌝ }
+pub fn read_leaflet(bs: &[u8], size: u32, words: &mut [u32; ROOM]) -> Reading
+    ensures { λ r. ⌜ ReadAs (now (bs .entry)) size (now (words .exit)) r ⌝ }
 {
     // lent as a slice, so that the proof knows its length
     let out = &mut words[..];
@@ -114,27 +115,27 @@ pub fn read_leaflet(s: &[u8], size: u32, words: &mut [u32; 1542]) -> Reading
     let mut n = 0;
     let mut i = 0;
     let mut g = 0;
-    while at < s.len() {
-        match item_at(s, at) {
+    while at < bs.len() {
+        match item_at(bs, at) {
             Found::Nothing => return Reading::Fault(at),
-            Found::Letter(c, width) => match put_letter(out, i, q, c, size, k) {
+            Found::Character(c, width) => match put_character(out, i, q, c, size, k) {
                 Put::Refused => return Reading::Fault(at),
                 Put::Full => {
-                    put_ruby(out, g, i, as_word(rt_ahead(s, at)));
-                    return filled(fault_from(s, at, q), i);
+                    put_ruby(out, g, i, as_word(rt_ahead(bs, at)));
+                    return full_reading(fault_from(bs, at, q), i);
                 }
                 Put::Next(j) => {
                     i = j;
                     n = ruby_counted(q, n);
                     g = start_past(q, g, j);
-                    q = past_letter(q);
+                    q = past_character(q);
                     at += width;
                 }
             },
             Found::Markup(t, width) => match after_tag(q, t) {
                 Step::Refused => return Reading::Fault(at),
                 Step::To(p) => {
-                    g = settle(out, t, g, i, n);
+                    g = put_ruby_past(out, t, g, i, n);
                     k = groups_past(t, k);
                     n = ruby_past(t, n);
                     q = p;

@@ -2,12 +2,12 @@
 ghost use mathlib.Core.Path.{_≡_};
 ghost use mathlib.Core.List.{[], _∷_};
 ghost use Rattle.leaflet.specs.Items.{char, tag as tagItem};
-ghost use Rattle.leaflet.specs.Spots.{in-base, letters, wantsPlain, allowed, tagNumber, find, tags, step};
+ghost use Rattle.leaflet.specs.Spots.{in-base, charStep, becomesRecord, allowed, tagNumber, find, tags, step};
 ghost use Rattle.leaflet.specs.Spots.{isOutside};
-ghost use Rattle.leaflet.specs.Values.{tagOf, spotOf, stepOf};
+ghost use Rattle.leaflet.specs.Enums.{tagOf, spotOf, stepOf};
 ghost use Rattle.leaflet.specs.Written.{toward, inRt};
-use crate::letters::is_text;
-use crate::letters::plain_class;
+use crate::characters::is_text_char;
+use crate::characters::plain_class;
 
 pub(crate) enum Tag {
     Ruby,
@@ -45,8 +45,8 @@ pub(crate) enum Step {
 }
 
 // Where a character leads that may stand at a spot.
-fn lettered(q: Spot) -> Step
-    ensures { λ r. ⌜ stepOf r ≡ letters (spotOf q) ⌝ }
+fn char_step(q: Spot) -> Step
+    ensures { λ r. ⌜ stepOf r ≡ charStep (spotOf q) ⌝ }
 {
     match q {
         Spot::Outside => Step::To(Spot::Outside),
@@ -65,10 +65,10 @@ fn lettered(q: Spot) -> Step
 }
 
 // The spot after a character that may stand at a spot.
-pub(crate) fn past_letter(q: Spot) -> Spot
-    ensures { λ r. ⌜ spotOf r ≡ toward (letters (spotOf q)) ⌝ }
+pub(crate) fn past_character(q: Spot) -> Spot
+    ensures { λ r. ⌜ spotOf r ≡ toward (charStep (spotOf q)) ⌝ }
 {
-    match lettered(q) {
+    match char_step(q) {
         Step::To(p) => p,
         Step::Refused => Spot::Outside,
     }
@@ -95,8 +95,8 @@ pub(crate) fn in_rt(q: Spot) -> bool
 }
 
 // Whether a character that stands here is a base or plain one.
-pub(crate) fn wants_plain(q: Spot) -> bool
-    ensures { λ r. ⌜ r ≡ wantsPlain (spotOf q) ⌝ }
+pub(crate) fn becomes_record(q: Spot) -> bool
+    ensures { λ r. ⌜ r ≡ becomesRecord (spotOf q) ⌝ }
 {
     match q {
         Spot::Outside => true,
@@ -118,10 +118,10 @@ pub(crate) fn wants_plain(q: Spot) -> bool
 fn is_allowed(q: Spot, c: u32) -> bool
     ensures { λ r. ⌜ r ≡ allowed (spotOf q) c ⌝ }
 {
-    if wants_plain(q) {
+    if becomes_record(q) {
         plain_class(c) != 0
     } else {
-        is_text(c)
+        is_text_char(c)
     }
 }
 
@@ -130,28 +130,40 @@ pub(crate) fn after_char(q: Spot, c: u32) -> Step
     ensures { λ r. ⌜ stepOf r ≡ step (spotOf q) (char c) ⌝ }
 {
     if is_allowed(q, c) {
-        lettered(q)
+        char_step(q)
     } else {
         Step::Refused
     }
 }
 
 // A tag as a number: an enum's values are compared by their numbers.
+pub(crate) const RUBY_TAG: u8 = 0;
+
+const RUBY_END_TAG: u8 = 1;
+
+pub(crate) const RT_TAG: u8 = 2;
+
+pub(crate) const RT_END_TAG: u8 = 3;
+
+const RP_TAG: u8 = 4;
+
+const RP_END_TAG: u8 = 5;
+
 pub(crate) fn tag_number(t: Tag) -> u8
     ensures { λ r. ⌜ r ≡ tagNumber (tagOf t) ⌝ }
 {
     match t {
-        Tag::Ruby => 0,
-        Tag::RubyEnd => 1,
-        Tag::Rt => 2,
-        Tag::RtEnd => 3,
-        Tag::Rp => 4,
-        Tag::RpEnd => 5,
+        Tag::Ruby => RUBY_TAG,
+        Tag::RubyEnd => RUBY_END_TAG,
+        Tag::Rt => RT_TAG,
+        Tag::RtEnd => RT_END_TAG,
+        Tag::Rp => RP_TAG,
+        Tag::RpEnd => RP_END_TAG,
     }
 }
 
 // The one tag that may stand here is `u`, and leads to `p`.
-fn only(t: Tag, u: Tag, p: Spot) -> Step
+fn only_tag(t: Tag, u: Tag, p: Spot) -> Step
     ensures { λ r. ⌜ stepOf r ≡ find (tagOf t) ((tagOf u, spotOf p) ∷ []) ⌝ }
 {
     if tag_number(t) == tag_number(u) {
@@ -165,10 +177,10 @@ fn only(t: Tag, u: Tag, p: Spot) -> Step
 fn rt_or_rp(t: Tag) -> Step
     ensures { λ r. ⌜ stepOf r ≡ find (tagOf t) (tags in-base) ⌝ }
 {
-    if tag_number(t) == 2 {
+    if tag_number(t) == RT_TAG {
         Step::To(Spot::BareOpened)
     } else {
-        only(t, Tag::Rp, Spot::InFirst)
+        only_tag(t, Tag::Rp, Spot::InFirst)
     }
 }
 
@@ -177,18 +189,18 @@ pub(crate) fn after_tag(q: Spot, t: Tag) -> Step
     ensures { λ r. ⌜ stepOf r ≡ step (spotOf q) (tagItem (tagOf t)) ⌝ }
 {
     match q {
-        Spot::Outside => only(t, Tag::Ruby, Spot::Opened),
+        Spot::Outside => only_tag(t, Tag::Ruby, Spot::Opened),
         Spot::Opened => Step::Refused,
         Spot::InBase => rt_or_rp(t),
         Spot::BareOpened => Step::Refused,
-        Spot::InBare => only(t, Tag::RtEnd, Spot::Closing),
-        Spot::InFirst => only(t, Tag::RpEnd, Spot::RtDue),
-        Spot::RtDue => only(t, Tag::Rt, Spot::FencedOpened),
+        Spot::InBare => only_tag(t, Tag::RtEnd, Spot::Closing),
+        Spot::InFirst => only_tag(t, Tag::RpEnd, Spot::RtDue),
+        Spot::RtDue => only_tag(t, Tag::Rt, Spot::FencedOpened),
         Spot::FencedOpened => Step::Refused,
-        Spot::InFenced => only(t, Tag::RtEnd, Spot::RpDue),
-        Spot::RpDue => only(t, Tag::Rp, Spot::InLast),
-        Spot::InLast => only(t, Tag::RpEnd, Spot::Closing),
-        Spot::Closing => only(t, Tag::RubyEnd, Spot::Outside),
+        Spot::InFenced => only_tag(t, Tag::RtEnd, Spot::RpDue),
+        Spot::RpDue => only_tag(t, Tag::Rp, Spot::InLast),
+        Spot::InLast => only_tag(t, Tag::RpEnd, Spot::Closing),
+        Spot::Closing => only_tag(t, Tag::RubyEnd, Spot::Outside),
     }
 }
 

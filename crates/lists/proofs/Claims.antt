@@ -15,8 +15,8 @@ use Rattle.lists.specs.List19.{ideographic}
 use Rattle.lists.specs.List27.{western}
 use Rattle.lists.specs.Lists.{lists, inList, classOf}
 use Rattle.lists.specs.Meanings.{Belongs, Gets, gets-western, gets-lowest, gets-none}
-use Rattle.lists.proofs.Facts.{ordered, true-false}
-use Rattle.lists.proofs.Counts.{counts}
+use Rattle.lists.proofs.Decisions.{ordered, true-false}
+use Rattle.lists.proofs.CodeCounts.{counts}
 use Rattle.lists.proofs.Has.{lists-belong, belong-lists}
 use Rattle.lists.proofs.Lowest.{ascending, Lowest, lowest-found, lowest-none, lowest-is}
 use Rattle.lists.proofs.in_list.Statement as in-list-contract

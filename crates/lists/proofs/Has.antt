@@ -8,7 +8,7 @@ use borrow.Author.Tests.{leb-true, le-leb, eqb-true, eq-eqb}
 use Rattle.lists.specs.Ranges.{Range, range, inRange, hasCode}
 use Rattle.lists.specs.Lists.{ClassList, list, inLists}
 use Rattle.lists.specs.Meanings.{Among, among-here, among-later, Has, Belongs}
-use Rattle.lists.proofs.Facts.{true-false}
+use Rattle.lists.proofs.Decisions.{true-false}
 
 later : {k : ℕ} {r : Range} {rs : List Range} → Has k rs → Has k (r ∷ rs)
 later h =

@@ -11,7 +11,7 @@ use borrow.Author.Tests.{leb-true}
 use Rattle.lists.specs.Ranges.{Range, hasCode}
 use Rattle.lists.specs.Lists.{ClassList, list, lowestWith}
 use Rattle.lists.specs.Meanings.{Among, among-here, among-later, Has, Belongs}
-use Rattle.lists.proofs.Facts.{true-false}
+use Rattle.lists.proofs.Decisions.{true-false}
 use Rattle.lists.proofs.Has.{code-has, has-code}
 
 -- the classes ascend, from lo on

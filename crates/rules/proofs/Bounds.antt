@@ -9,13 +9,14 @@ use mathlib.Core.Logic.{inl, inr}
 use borrow.Author.Tests.{le-leb, leb-true, ltb-true, eqb-true}
 use lib.Dec.{leb, ltb, eqb}
 use Rattle.rules.specs.Basics.{within}
+use Rattle.rules.specs.Limits.{sizeStep, leastSize, largestSize, mostRuby, largestAdvance, largestBase}
 use Rattle.rules.specs.Records.{sizeOk}
 use Rattle.rules.specs.Groups.{rubyTotal, shift, rubyOk}
-use Rattle.rules.specs.Values.{ShiftBounds}
-use Rattle.rules.proofs.Facts.{tested}
+use Rattle.rules.specs.Bounds.{ShiftBounds}
+use Rattle.rules.proofs.Decisions.{tested}
 use Rattle.rules.proofs.Shares.{none-yet}
 
-pub rubyTotal-small : (n s : ℕ) → n ≤ 64 → s ≤ 4000 → rubyTotal n s ≤ 128000
+pub rubyTotal-small : (n s : ℕ) → n ≤ mostRuby → s ≤ largestSize → rubyTotal n s ≤ largestAdvance
 rubyTotal-small n s h k = mul-le-mul {m₂ = 2000} h (omega arith)
 
 -- of two or more items in the shorter row the first is not shifted, and the last by all of the difference
@@ -42,14 +43,14 @@ shift-small d n k h =
     ]
 
 -- the product of which a shift is the quotient
-pub shift-product : {d n k : ℕ} → ShiftBounds d n k → d * k ≤ 128000 * 63
+pub shift-product : {d n k : ℕ} → ShiftBounds d n k → d * k ≤ largestAdvance * 63
 shift-product b = mul-le-mul {m₂ = 63} (b .difference) (omega arith)
 
 -- what holds where ruby place does not refuse
 pub record RubyBounds (base n s k : ℕ) : Type 0 where
-  pub total : base ≤ 64000
-  pub characters : n ≤ 64
-  pub size : s ≤ 4000
+  pub total : base ≤ largestBase
+  pub characters : n ≤ mostRuby
+  pub size : s ≤ largestSize
   pub character : k < n
 
 pub within-low : (lo hi x : ℕ) → within lo hi x ≡ true → lo ≤ x
@@ -62,26 +63,26 @@ within-high lo hi x e = leb-true x hi (and-eq-true-iff (leb lo x) (leb x hi) .0 
 pub record SizeBounds (s : ℕ) : Type 0 where
   pub eighths : s ≡ 8 * (s / 8)
   pub least : 8 ≤ s
-  pub most : s ≤ 4000
+  pub most : s ≤ largestSize
 
 pub size-bounds : (s : ℕ) → sizeOk s ≡ true → SizeBounds s
 unfolding sizeOk
 size-bounds s e =
-    let both = and-eq-true-iff (eqb (s % 8) 0) (within 8 4000 s) .0 e in
+    let both = and-eq-true-iff (eqb (s % sizeStep) 0) (within leastSize largestSize s) .0 e in
     record {
-      eighths = omega (arith, eqb-true (s % 8) 0 (both .0));
-      least = within-low 8 4000 s (both .1);
-      most = within-high 8 4000 s (both .1);
+      eighths = omega (arith, eqb-true (s % sizeStep) 0 (both .0));
+      least = within-low leastSize largestSize s (both .1);
+      most = within-high leastSize largestSize s (both .1);
     }
 
 pub rubyOk-bounds : (base n s k : ℕ) → rubyOk base n s k ≡ true → RubyBounds base n s k
 rubyOk-bounds base n s k e =
-    let p = and-eq-true-iff (sizeOk s && within 1 64 n && ltb k n) (within 1 64000 base) .0 e in
-    let q = and-eq-true-iff (sizeOk s && within 1 64 n) (ltb k n) .0 (p .0) in
-    let t = and-eq-true-iff (sizeOk s) (within 1 64 n) .0 (q .0) in
+    let p = and-eq-true-iff (sizeOk s && within 1 mostRuby n && ltb k n) (within 1 largestBase base) .0 e in
+    let q = and-eq-true-iff (sizeOk s && within 1 mostRuby n) (ltb k n) .0 (p .0) in
+    let t = and-eq-true-iff (sizeOk s) (within 1 mostRuby n) .0 (q .0) in
     record {
-      total = within-high 1 64000 base (p .1);
-      characters = within-high 1 64 n (t .1);
+      total = within-high 1 largestBase base (p .1);
+      characters = within-high 1 mostRuby n (t .1);
       size = size-bounds s (t .0) .most;
       character = ltb-true k n (q .1);
     }

@@ -7,21 +7,25 @@ use mathlib.Core.List.{List, _∷_, _++_, map}
 use mathlib.Core.Logic.{_↔_}
 use mathlib.Core.Option.{none, some}
 use lib.ListN.{length, getD}
+-- the definitions
 use Rattle.lists.specs.Lists.{lists}
 use Rattle.rules.specs.Basics.{Run, whole}
 use Rattle.rules.specs.Records.{Rec, classes, classOk}
 use Rattle.rules.specs.Listed.{notListed}
 use Rattle.rules.specs.Space.{ruleOf, spaceOf}
+use Rattle.rules.specs.Sides.{Side, arabicDigit, forbidden}
+use Rattle.rules.specs.Gaps.{flexibility, Gap, gapBy, plus}
 use Rattle.rules.specs.Groups.{TextUnit, sameGroup, units, count, baseTotal, rubyTotal, advance}
 use Rattle.rules.specs.Groups.{groupAdvance, baseOffsets, rubyOffset}
-use Rattle.rules.specs.Sides.{Side, arabicDigit, forbidden}
-use Rattle.rules.specs.Gaps.{flexibility, Gap, gapBy}
-use Rattle.rules.specs.Breaks.{bound, width, runs, noBreaking, breaking}
-use Rattle.rules.specs.Adjustment.{plus, amountsOf, totals, natural, Line, lineOf, compose}
+use Rattle.rules.specs.Breaks.{forbiddenBetween, width, runs, noBreaking, breaking}
+use Rattle.rules.specs.Adjustment.{amountsOf, totals, natural, Line, lineOf, compose}
 use Rattle.rules.specs.Redone.{editLine, resumes, resumed, report}
 use Rattle.rules.specs.Sheet.{Setting}
 use Rattle.rules.specs.Refusals.{judged, splice}
 use Rattle.rules.specs.Pool.{ownAmong, lowestFree}
+use Rattle.rules.specs.Spacing.{named, gapSet, spacingTable, cellIn}
+use Rattle.rules.specs.Packed.{packed, unpacked, Packs, AtMost}
+-- what is asked of them
 use Rattle.rules.specs.Meanings.{All, lastOf, Maximal, Boundary, OneUnit, RubyPlaced, Choice, Fits, Longest}
 use Rattle.rules.specs.Meanings.{FirstWide, GapAt, WithinLimits, FirstStageFull, Apart, FirstLacking, Listed}
 use Rattle.rules.specs.Meanings.{NeverOpens, startsWith}
@@ -29,39 +33,39 @@ use Rattle.rules.specs.Percent.{digitAndPostfix}
 use Rattle.rules.specs.Stable.{Holds, FirstThat, Resumes, usedBy, StableEdit}
 use Rattle.rules.specs.SpaceBetween.{offsetOf, advanceOf, SpaceBetween, Centred, Solid}
 use Rattle.rules.specs.LowestFree.{Found}
-use Rattle.rules.specs.Spacing.{named, gapSet, spacingTable, cellIn}
-use Rattle.rules.specs.Packed.{packed, unpacked, Packs, AtMost}
-use Rattle.rules.proofs.Facts.{some-none}
+-- the laws that prove it, in the order of the claims
+use Rattle.rules.proofs.Decisions.{some-none}
 use Rattle.rules.proofs.Judged.{judged-passes}
 use Rattle.rules.proofs.Listed.{classIn, classes-listed, all-listed, first-not-listed}
-use Rattle.rules.proofs.Worked.{right}
-use Rattle.rules.proofs.Cases.{rows, cases-hold}
-use Rattle.rules.proofs.PercentCases.{percents, percents-hold}
-use Rattle.rules.proofs.RowCases.{group-rows, group-rows-hold}
-use Rattle.rules.proofs.PairCases.{pairs, ruled, wanted, pairs-hold}
-use Rattle.rules.proofs.PoolCases.{takes, answered, wanted-answer, takes-hold, calls, numbered, due, calls-hold}
+use Rattle.rules.proofs.LineOpenings.{comma-not-at-start, no-line-opens}
+use Rattle.rules.proofs.ListedCases.{listings, listings-hold}
 use Rattle.rules.proofs.Cuts.{cut-maximal, maximal-only, boundary-exact, units-one}
+use Rattle.rules.proofs.GroupRows.{base-within, base-between, base-centred, base-solid}
+use Rattle.rules.proofs.GroupRows.{ruby-within, ruby-between, ruby-centred, ruby-solid}
+use Rattle.rules.proofs.RubyPlaces.{accepted-placed}
 use Rattle.rules.proofs.NoBreaking.{breaking-exists, due-exactly, place-of-10}
 use Rattle.rules.proofs.Breaking.{breaking-choice, lines-fit}
 use Rattle.rules.proofs.LongestLines.{lines-longest}
-use Rattle.rules.proofs.Unique.{only-lines}
+use Rattle.rules.proofs.OnlyLines.{only-lines}
 use Rattle.rules.proofs.Percent.{digit-decides, lines-keep-postfix}
-use Rattle.rules.proofs.Cells.{table-gap}
+use Rattle.rules.proofs.SpacingCells.{table-gap}
 use Rattle.rules.proofs.Packed.{packed-plus, unpacked-packed}
+use Rattle.rules.proofs.LineEnds.{ends-within, wide-ends, flush-ends, short-ends, final-ends}
+use Rattle.rules.proofs.GapLimits.{within-limits, first-stage-full}
 use Rattle.rules.proofs.KeptLines.{all-held}
 use Rattle.rules.proofs.EditLine.{edit-line}
 use Rattle.rules.proofs.FirstLines.{resumed-first}
 use Rattle.rules.proofs.Resuming.{resumes-exactly}
 use Rattle.rules.proofs.RedoneLines.{edit-stable}
-use Rattle.rules.proofs.RedoneCases.{edit-rows, edits-right, edit-cases-hold}
-use Rattle.rules.proofs.Ends.{ends-within, wide-ends, flush-ends, short-ends, final-ends}
-use Rattle.rules.proofs.GapLimits.{within-limits, first-stage-full}
-use Rattle.rules.proofs.GroupRows.{base-within, base-between, base-centred, base-solid}
-use Rattle.rules.proofs.GroupRows.{ruby-within, ruby-between, ruby-centred, ruby-solid}
-use Rattle.rules.proofs.RubyPlaces.{accepted-placed}
-use Rattle.rules.proofs.LineOpenings.{comma-barred, no-line-opens}
 use Rattle.rules.proofs.OwnSlots.{lowest}
-use Rattle.rules.proofs.ListedCases.{listings, listings-hold}
+use Rattle.rules.proofs.WorkedCases.{right}
+use Rattle.rules.proofs.ComposedCases.{rows, cases-hold}
+use Rattle.rules.proofs.PercentCases.{percents, percents-hold}
+use Rattle.rules.proofs.RowCases.{group-rows, group-rows-hold}
+use Rattle.rules.proofs.PairCases.{pairs, ruled, wanted, pairs-hold}
+use Rattle.rules.proofs.RedoneCases.{edit-rows, edits-right, edit-cases-hold}
+use Rattle.rules.proofs.PoolCases.{takes, answered, wanted-answer, takes-hold, calls, numbered, due, calls-hold}
+-- the contracts of the code
 use Rattle.rules.proofs.spacing.spacing_table.Statement as spacing-table-contract
 use Rattle.rules.proofs.spacing.spacing_table.Met as spacing-table-met
 use Rattle.rules.proofs.groups.ruby_place.Statement as ruby-place-contract
@@ -85,13 +89,14 @@ answer-12-exactly rs i = first-not-listed rs i
 pub accepted-listed : (m x : ℕ) (rs : List Rec) → judged m x rs .number ≡ 0 → All Listed rs
 accepted-listed m x rs h = all-listed rs .0 (judged-passes m x rs 0 refl h .listed)
 
--- and no line but the first opens with a character that is listed under barred classes alone, as the ideographic comma
+-- and no line but the first opens with a character that is listed only under classes that start no line, as the
+-- ideographic comma
 pub no-line-opens-with : (k m x : ℕ) (rs : List Rec) → NeverOpens k → judged m x rs .number ≡ 0 →
     Apart (startsWith k) (breaking m x (runs (units rs)))
 no-line-opens-with k m x rs n h = no-line-opens k m x rs n h
 
 pub comma-never-opens : NeverOpens 0x3001
-comma-never-opens = comma-barred
+comma-never-opens = comma-not-at-start
 
 -- the cases of request 04 come out as they were worked by hand
 pub listed-by-hand : right listings ≡ true
@@ -157,9 +162,9 @@ ruby-placed m x rs h = accepted-placed m x rs h
 
 -- the boundaries between runs are exactly the permitted breaks
 pub runs-boundaries : (u : TextUnit) (us : List TextUnit) (v : TextUnit) (vs : List TextUnit) →
-    Boundary (runs (u ∷ us ++ v ∷ vs)) (u ∷ us) (v ∷ vs) ↔ (bound (lastOf u us) v ≡ false)
+    Boundary (runs (u ∷ us ++ v ∷ vs)) (u ∷ us) (v ∷ vs) ↔ (forbiddenBetween (lastOf u us) v ≡ false)
 unfolding runs
-runs-boundaries u us v vs = boundary-exact bound u us v vs
+runs-boundaries u us v vs = boundary-exact forbiddenBetween u us v vs
 
 -- answer 10 is not due exactly where some choice of permitted breaks has every line within the measure
 pub no-10-exactly : (m x : ℕ) (us : List TextUnit) →

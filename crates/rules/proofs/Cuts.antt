@@ -1,15 +1,16 @@
--- Laws of `cut`: it gives the maximal runs of tied neighbours, and no others. Assumes nothing.
+-- Laws of `cut`: it gives the maximal runs of linked neighbours, and no others. Assumes nothing.
 use mathlib.Core.Path.{_≡_, refl, ap, sym, _∙_}
 use mathlib.Core.Bool.{Bool, true, false}
 use mathlib.Core.List.{List, [], _∷_, _++_, append-assoc, append-nil}
 use mathlib.Core.Logic.{inl, inr, _↔_}
 use lib.Dec.{eqb}
 use borrow.Author.Tests.{eqb-true, eqb-false}
-use Rattle.rules.specs.Basics.{Run, alone, whole, then, joined, tie, cut}
+use Rattle.rules.specs.Basics.{Run, alone, whole, extended, joined, link, cut}
 use Rattle.rules.specs.Records.{Rec}
 use Rattle.rules.specs.Groups.{TextUnit, sameGroup, units}
-use Rattle.rules.proofs.Facts.{tested, true-false, nil-cons}
-use Rattle.rules.specs.Meanings.{All, all-none, all-more, lastOf, lastIn, Tied, tied-one, tied-more, TiedRun}
+use Rattle.rules.proofs.Decisions.{tested, true-false, nil-cons}
+use Rattle.rules.specs.Meanings.{All, all-none, all-more, lastOf, lastIn, Linked, linked-one, linked-more}
+use Rattle.rules.specs.Meanings.{LinkedRun}
 use Rattle.rules.specs.Meanings.{Apart, apart-none, apart-one, apart-more, Maximal, Boundary, OneUnit, single}
 use Rattle.rules.specs.Meanings.{grouped}
 
@@ -25,62 +26,62 @@ joined-append (l ∷ ls) ks =
     ap (λ t. whole l ++ t) (joined-append ls ks) ∙ sym (append-assoc (whole l) (joined ls) (joined ks))
 
 module _ {A : Type 0} (t : A → A → Bool) where
-  tie-joined : (a : A) (ls : List (Run A)) → joined (tie t a ls) ≡ a ∷ joined ls
+  link-joined : (a : A) (ls : List (Run A)) → joined (link t a ls) ≡ a ∷ joined ls
   unfolding joined
-  tie-joined a [] = refl
-  tie-joined a (l ∷ ls) = elim (tested (t a (l .first))) [ inl e ↦ rw e | inr e ↦ rw e ]
+  link-joined a [] = refl
+  link-joined a (l ∷ ls) = elim (tested (t a (l .first))) [ inl e ↦ rw e | inr e ↦ rw e ]
 
   pub cut-joined : (ps : List A) → joined (cut t ps) ≡ ps
   unfolding cut joined
   cut-joined [] = refl
-  cut-joined (a ∷ ps) = tie-joined a (cut t ps) ∙ ap (λ s. a ∷ s) (cut-joined ps)
+  cut-joined (a ∷ ps) = link-joined a (cut t ps) ∙ ap (λ s. a ∷ s) (cut-joined ps)
 
-  tie-tied : (a : A) {ls : List (Run A)} → All (TiedRun t) ls → All (TiedRun t) (tie t a ls)
-  tie-tied a all-none = all-more tied-one all-none
-  tie-tied a (all-more {a = l} h hs) =
+  link-linked : (a : A) {ls : List (Run A)} → All (LinkedRun t) ls → All (LinkedRun t) (link t a ls)
+  link-linked a all-none = all-more linked-one all-none
+  link-linked a (all-more {a = l} h hs) =
       elim (tested (t a (l .first))) [
-        | inl e ↦ rw e (all-more (tied-more e h) hs)
-        | inr e ↦ rw e (all-more tied-one (all-more h hs))
+        | inl e ↦ rw e (all-more (linked-more e h) hs)
+        | inr e ↦ rw e (all-more linked-one (all-more h hs))
       ]
 
-  pub cut-tied : (ps : List A) → All (TiedRun t) (cut t ps)
+  pub cut-linked : (ps : List A) → All (LinkedRun t) (cut t ps)
   unfolding cut
-  cut-tied [] = all-none
-  cut-tied (a ∷ ps) = tie-tied a (cut-tied ps)
+  cut-linked [] = all-none
+  cut-linked (a ∷ ps) = link-linked a (cut-linked ps)
 
   -- of a first run its last element is asked only
   pub apart-alike : {l k : Run A} {ls : List (Run A)} → lastIn l ≡ lastIn k → Apart t (l ∷ ls) → Apart t (k ∷ ls)
   apart-alike p apart-one = apart-one
   apart-alike {k = k} p (apart-more {k = j} e h) = apart-more {l = k} {k = j} (rw (← p) e) h
 
-  tie-apart : (a : A) (ls : List (Run A)) → Apart t ls → Apart t (tie t a ls)
-  tie-apart a [] h = apart-one
-  tie-apart a (l ∷ ls) h =
+  link-apart : (a : A) (ls : List (Run A)) → Apart t ls → Apart t (link t a ls)
+  link-apart a [] h = apart-one
+  link-apart a (l ∷ ls) h =
       elim (tested (t a (l .first))) [ inl e ↦ rw e (apart-alike refl h) | inr e ↦ rw e (apart-more e h) ]
 
   pub cut-apart : (ps : List A) → Apart t (cut t ps)
   unfolding cut
   cut-apart [] = apart-none
-  cut-apart (a ∷ ps) = tie-apart a (cut t ps) (cut-apart ps)
+  cut-apart (a ∷ ps) = link-apart a (cut t ps) (cut-apart ps)
 
   -- `cut` gives maximal runs
   pub cut-maximal : (ps : List A) → Maximal t ps (cut t ps)
-  cut-maximal ps = record { joins-up = cut-joined ps; tied = cut-tied ps; apart = cut-apart ps }
+  cut-maximal ps = record { joins-up = cut-joined ps; linked = cut-linked ps; apart = cut-apart ps }
 
-  -- a tied run is cut off whole before runs from which it is apart
-  cut-run : (a : A) (bs : List A) (ls : List (Run A)) → cut t (joined ls) ≡ ls → Tied t a bs →
+  -- a linked run is cut off whole before runs from which it is apart
+  cut-run : (a : A) (bs : List A) (ls : List (Run A)) → cut t (joined ls) ≡ ls → Linked t a bs →
       Apart t (record { first = a; rest = bs } ∷ ls) → cut t (a ∷ bs ++ joined ls) ≡ record { first = a; rest = bs } ∷
       ls
   unfolding cut
-  cut-run a [] [] h tied-one g = rw h
-  cut-run a [] (l ∷ ls) h tied-one (apart-more e g) = rw (h, e)
-  cut-run a (b ∷ bs) ls h (tied-more e k) g = rw (cut-run b bs ls h k (apart-alike refl g), e)
+  cut-run a [] [] h linked-one g = rw h
+  cut-run a [] (l ∷ ls) h linked-one (apart-more e g) = rw (h, e)
+  cut-run a (b ∷ bs) ls h (linked-more e k) g = rw (cut-run b bs ls h k (apart-alike refl g), e)
 
   pub apart-tail : {l : Run A} {ls : List (Run A)} → Apart t (l ∷ ls) → Apart t ls
   apart-tail apart-one = apart-none
   apart-tail (apart-more e h) = h
 
-  cut-again : {ls : List (Run A)} → All (TiedRun t) ls → Apart t ls → cut t (joined ls) ≡ ls
+  cut-again : {ls : List (Run A)} → All (LinkedRun t) ls → Apart t ls → cut t (joined ls) ≡ ls
   unfolding cut joined
   cut-again all-none g = refl
   cut-again (all-more {a = l} {bs = ls} h hs) g = cut-run (l .first) (l .rest) ls (cut-again hs (apart-tail g)) h g
@@ -90,11 +91,11 @@ module _ {A : Type 0} (t : A → A → Bool) where
 
   -- what follows the first run is cut as it would be by itself
   pub cut-tail : (ps : List A) (l : Run A) (ls : List (Run A)) → cut t ps ≡ l ∷ ls → ls ≡ cut t (joined ls)
-  cut-tail ps l ls e = sym (cut-again (all-tail (rw e at (cut-tied ps))) (apart-tail (rw e at (cut-apart ps))))
+  cut-tail ps l ls e = sym (cut-again (all-tail (rw e at (cut-linked ps))) (apart-tail (rw e at (cut-apart ps))))
 
   -- and no other runs are maximal
   pub maximal-only : (ps : List A) (ls : List (Run A)) → Maximal t ps ls → ls ≡ cut t ps
-  maximal-only ps ls m = sym (cut-again (m .tied) (m .apart)) ∙ ap (λ s. cut t s) (m .joins-up)
+  maximal-only ps ls m = sym (cut-again (m .linked) (m .apart)) ∙ ap (λ s. cut t s) (m .joins-up)
 
   -- the first run starts with the first element
   pub cut-first : (a : A) (ps : List A) →
@@ -102,18 +103,18 @@ module _ {A : Type 0} (t : A → A → Bool) where
   unfolding cut
   cut-first a ps = from (cut t ps)
     where
-      from : (ls : List (Run A)) → (l : Run A) × (ks : List (Run A)) × (tie t a ls ≡ l ∷ ks) × (l .first ≡ a)
+      from : (ls : List (Run A)) → (l : Run A) × (ks : List (Run A)) × (link t a ls ≡ l ∷ ks) × (l .first ≡ a)
       from [] = (alone a, [], refl, refl)
       from (l ∷ ls) =
           elim (tested (t a (l .first))) [
-            | inl e ↦ (then (alone a) l, ls, (rw e), refl)
+            | inl e ↦ (extended (alone a) l, ls, (rw e), refl)
             | inr e ↦ (alone a, l ∷ ls, (rw e), refl)
           ]
 
-  tie-append : (a : A) (l : Run A) (ls ks : List (Run A)) → tie t a (l ∷ ls) ++ ks ≡ tie t a ((l ∷ ls) ++ ks)
-  tie-append a l ls ks = elim (tested (t a (l .first))) [ inl e ↦ rw e | inr e ↦ rw e ]
+  link-append : (a : A) (l : Run A) (ls ks : List (Run A)) → link t a (l ∷ ls) ++ ks ≡ link t a ((l ∷ ls) ++ ks)
+  link-append a l ls ks = elim (tested (t a (l .first))) [ inl e ↦ rw e | inr e ↦ rw e ]
 
-  -- at untied neighbours a list is cut
+  -- at apart neighbours a list is cut
   pub cut-split : (a : A) (bs : List A) (c : A) (cs : List A) → t (lastOf a bs) c ≡ false →
       cut t (a ∷ bs ++ c ∷ cs) ≡ cut t (a ∷ bs) ++ cut t (c ∷ cs)
   unfolding cut
@@ -122,7 +123,7 @@ module _ {A : Type 0} (t : A → A → Bool) where
       rw (f .2, f .3, e)
   cut-split a (b ∷ bs) c cs e =
       let f = cut-first b bs in
-      rw (cut-split b bs c cs e, f .2) (sym (tie-append a (f .0) (f .1) (cut t (c ∷ cs))))
+      rw (cut-split b bs c cs e, f .2) (sym (link-append a (f .0) (f .1) (cut t (c ∷ cs))))
 
   between : (l : Run A) (ls : List (Run A)) (k : Run A) (ks : List (Run A)) → Apart t (l ∷ ls ++ k ∷ ks) →
       t (lastOf (l .first) (l .rest ++ joined ls)) (k .first) ≡ false
@@ -130,11 +131,11 @@ module _ {A : Type 0} (t : A → A → Bool) where
   between l [] k ks (apart-more e h) = rw append-nil e
   between l (j ∷ ls) k ks (apart-more e h) = rw last-append (between j ls k ks h)
 
-  boundary-untied : {ls : List (Run A)} {a : A} {bs : List A} {c : A} {cs : List A} → Apart t ls →
+  boundary-apart : {ls : List (Run A)} {a : A} {bs : List A} {c : A} {cs : List A} → Apart t ls →
       Boundary ls (a ∷ bs) (c ∷ cs) →
       t (lastOf a bs) c ≡ false
   unfolding joined
-  boundary-untied {ls} {a} {bs} {c} {cs} h b = from (b .before) (b .after) (b .all) (b .left) (b .right)
+  boundary-apart {ls} {a} {bs} {c} {cs} h b = from (b .before) (b .after) (b .all) (b .left) (b .right)
     where
       from : (before after : List (Run A)) → before ++ after ≡ ls → joined before ≡ a ∷ bs → joined after ≡ c ∷ cs →
           t (lastOf a bs) c ≡ false
@@ -146,11 +147,11 @@ module _ {A : Type 0} (t : A → A → Bool) where
           let r : k .first ≡ c = cc in
           rw (p, q, r) at (between l before k after (rw (← e) at h))
 
-  -- the boundaries between the runs are exactly the untied neighbours
+  -- the boundaries between the runs are exactly the apart neighbours
   pub boundary-exact : (a : A) (bs : List A) (c : A) (cs : List A) →
       Boundary (cut t (a ∷ bs ++ c ∷ cs)) (a ∷ bs) (c ∷ cs) ↔ (t (lastOf a bs) c ≡ false)
   boundary-exact a bs c cs = (
-    boundary-untied (cut-apart (a ∷ bs ++ c ∷ cs)),
+    boundary-apart (cut-apart (a ∷ bs ++ c ∷ cs)),
     λ e.
         record {
           before = cut t (a ∷ bs);
@@ -169,27 +170,27 @@ same-group p r e =
       | inr z ↦ (eqb-false _ _ z, eqb-true (p .group) (r .group) (rw z at e))
     ]
 
-tied-group : {p : Rec} {rs : List Rec} → Tied sameGroup p rs → All (λ r. r .group ≡ p .group) rs
-tied-group tied-one = all-none
-tied-group (tied-more {a = p} {b = r} {bs = rs} e h) =
+linked-group : {p : Rec} {rs : List Rec} → Linked sameGroup p rs → All (λ r. r .group ≡ p .group) rs
+linked-group linked-one = all-none
+linked-group (linked-more {a = p} {b = r} {bs = rs} e h) =
     let g = same-group p r e in
-    all-more (sym (g .1)) (rw (← g .1) at (tied-group h))
+    all-more (sym (g .1)) (rw (← g .1) at (linked-group h))
 
 -- a unit is a single record or a run of one non-zero group
-unit-one : (u : TextUnit) → TiedRun sameGroup u → OneUnit u
+unit-one : (u : TextUnit) → LinkedRun sameGroup u → OneUnit u
 unit-one u h = from (u .rest) h refl
   where
-    from : (rs : List Rec) → Tied sameGroup (u .first) rs → u .rest ≡ rs → OneUnit u
+    from : (rs : List Rec) → Linked sameGroup (u .first) rs → u .rest ≡ rs → OneUnit u
     from [] g e = single e
-    from (r ∷ rs) g e = grouped {u = u} (λ z. nonzero g z) (rw e (tied-group g))
+    from (r ∷ rs) g e = grouped {u = u} (λ z. nonzero g z) (rw e (linked-group g))
       where
-        nonzero : {rs : List Rec} → Tied sameGroup (u .first) (r ∷ rs) → u .first .group ≡ 0 → ⊥
-        nonzero (tied-more e h) z = let g = same-group (u .first) r e in g .0 (sym (g .1) ∙ z)
+        nonzero : {rs : List Rec} → Linked sameGroup (u .first) (r ∷ rs) → u .first .group ≡ 0 → ⊥
+        nonzero (linked-more e h) z = let g = same-group (u .first) r e in g .0 (sym (g .1) ∙ z)
 
-all-one : {us : List TextUnit} → All (TiedRun sameGroup) us → All OneUnit us
+all-one : {us : List TextUnit} → All (LinkedRun sameGroup) us → All OneUnit us
 all-one all-none = all-none
 all-one (all-more {a = u} h hs) = all-more (unit-one u h) (all-one hs)
 
 pub units-one : (rs : List Rec) → All OneUnit (units rs)
 unfolding units
-units-one rs = all-one (cut-tied sameGroup rs)
+units-one rs = all-one (cut-linked sameGroup rs)

@@ -10,7 +10,7 @@ use borrow.Author.Tests.{ltb-true, ltb-false, lt-ltb, le-ltb}
 use Rattle.rules.specs.Adjustment.{Line}
 use Rattle.rules.specs.Redone.{start, holding, editLine, firstRedone}
 use Rattle.rules.specs.Stable.{Holds}
-use Rattle.rules.proofs.Facts.{tested, ordered}
+use Rattle.rules.proofs.Decisions.{tested, ordered}
 
 -- a line up to the one that holds record i starts at it or before it
 held : (i : ℕ) (ls : List Line) (j : ℕ) → j ≤ holding i ls → start j ls ≤ i

@@ -10,7 +10,7 @@ use mathlib.Core.Option.{none, some}
 use lib.ListN.{length, take, drop, length-append}
 use Rattle.rules.specs.Basics.{firstFailing}
 use Rattle.rules.specs.Meanings.{All, all-none, all-more, FirstLacking}
-use Rattle.rules.proofs.Facts.{tested, true-false, nil-cons, some-none, some-same}
+use Rattle.rules.proofs.Decisions.{tested, true-false, nil-cons, some-none, some-same}
 
 module _ {A : Type 0} (t : A → Bool) where
   abbrev pub Passes : A → Type 0

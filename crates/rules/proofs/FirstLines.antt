@@ -9,7 +9,7 @@ use mathlib.Core.Logic.{inl, inr}
 use Rattle.rules.specs.Adjustment.{Line}
 use Rattle.rules.specs.Redone.{start, firstLine, resumes, resumed}
 use Rattle.rules.specs.Stable.{FirstThat}
-use Rattle.rules.proofs.Facts.{tested, ordered, true-false}
+use Rattle.rules.proofs.Decisions.{tested, ordered, true-false}
 
 -- of lines, the first of which is line j, starts at record i and does not pass
 first-later : (t : ℕ → ℕ → Bool) (j i : ℕ) (l : Line) (ls : List Line) (n : ℕ) → t j i ≡ false →

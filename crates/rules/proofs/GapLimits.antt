@@ -12,7 +12,7 @@ use Rattle.rules.specs.Breaks.{width}
 use Rattle.rules.specs.Adjustment.{amountsOf, share, totals, gapsOf}
 use Rattle.rules.specs.Meanings.{GapAt, gap-here, gap-later, WithinLimits, FirstStageFull}
 use Rattle.rules.proofs.Shares.{share-cap, full-share}
-use Rattle.rules.proofs.Ends.{taken}
+use Rattle.rules.proofs.LineEnds.{taken}
 
 -- the gaps before one, and the gap, are no more than all
 gaps-within : {u : TextUnit} {us : List TextUnit} {s g : Gap} → GapAt u us s g →

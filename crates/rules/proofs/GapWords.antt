@@ -9,13 +9,13 @@ use Rattle.rules.specs.Sides.{Side, forbidden}
 use Rattle.rules.specs.Gaps.{Gap, weight, gapOf}
 use Rattle.rules.specs.Spacing.{entries, named, gapSet, cellOf, jointCell}
 use Rattle.rules.specs.Packed.{packed, unpacked, Packs, AtMost, weighing, Taken}
-use Rattle.rules.specs.Values.{SideOk}
+use Rattle.rules.specs.Bounds.{SideOk}
 use Rattle.rules.proofs.Packed.{at-most-255, unpacked-packed}
-use Rattle.rules.proofs.Cells.{cell-small, cell-entry, cell-gap, cell-agrees}
-use Rattle.rules.proofs.Entries.{EntryLaw, entry-law, solid-taken}
+use Rattle.rules.proofs.SpacingCells.{cell-small, cell-entry, cell-gap, cell-agrees}
+use Rattle.rules.proofs.SpacingEntries.{EntryLaw, entry-law, solid-taken}
 use Rattle.rules.proofs.Bounds.{size-bounds}
-use Rattle.rules.proofs.Weights.{weight-free, weight-most, solid-after}
-use Rattle.rules.proofs.Ties.{forbidden-told}
+use Rattle.rules.proofs.GapWeights.{weight-free, weight-most, solid-after}
+use Rattle.rules.proofs.SpacingBreaks.{forbidden-told}
 
 -- a word holds the gap, and 254 like it
 pub record GapBounds (g : Gap) : Type 0 where
@@ -66,8 +66,8 @@ module _ (L R : Side) (l : SideOk L) (r : SideOk R) where
     no-entry : cell L R ≡ 0
     no-entry = sym (cell-entry (L .class) (R .class) (l .class) (r .class)) ∙ ap (λ n. n % 16) z
 
-    pub no-tie : forbidden L R ≡ false
-    no-tie = rw z at (forbidden-told L R (l .class) (r .class))
+    pub break-permitted : forbidden L R ≡ false
+    break-permitted = rw z at (forbidden-told L R (l .class) (r .class))
 
     no-dot : eqb (L .class) 5 ≡ false
     unfolding entries
@@ -77,4 +77,4 @@ module _ (L R : Side) (l : SideOk L) (r : SideOk R) where
 
     pub solid-word : unpacked (weighing 1) ≡ gapOf L R
     solid-word =
-        rw (weight-free L R no-tie no-dot) at (gap-taken (solid-taken (cell L R) (L .size) (R .size) no-entry))
+        rw (weight-free L R break-permitted no-dot) at (gap-taken (solid-taken (cell L R) (L .size) (R .size) no-entry))

@@ -3,16 +3,17 @@ use mathlib.Core.Path.{_≡_}
 use Prim.Native.Nat.{ℕ, _≤_, _<_}
 use native.Mathlib.Omega.{arith}
 use mathlib.Core.Bool.{true}
-use mathlib.Core.List.{List, [], _∷_}
+use mathlib.Core.List.{List}
 use mathlib.Core.Option.{none}
 use borrow.Author.Tests.{eqb-true, ne-eqb}
 use Rattle.rules.specs.Basics.{within, isIn}
-use Rattle.rules.specs.Records.{Rec, sizeOk, advanceKind, advanceOk, groupOk, recOk, badRecord}
+use Rattle.rules.specs.Limits.{largestSize, mostRuby}
+use Rattle.rules.specs.Records.{Rec, groupClasses, sizeOk, advanceKind, advanceOk, groupOk, recOk, badRecord}
 use Rattle.rules.specs.Meanings.{All, all-none, all-more}
 use Rattle.rules.proofs.FirstFailing.{none-fails}
 use Rattle.rules.proofs.Bounds.{size-bounds}
-use Rattle.rules.proofs.Table.{holds-in}
-use Rattle.rules.proofs.Limits.{asked, asked-in-group}
+use Rattle.rules.proofs.ComputedTables.{holds-in}
+use Rattle.rules.proofs.RecordLimits.{asked, asked-in-group}
 
 abbrev pub Fine : Rec → Type 0
 Fine r = recOk r ≡ true
@@ -22,7 +23,7 @@ unfolding badRecord
 all-fine i rs h = none-fails recOk i rs h
 
 -- classes 15, 16 and 19 are as wide as their size
-as-wide : (c s a : ℕ) → isIn c (15 ∷ 16 ∷ 19 ∷ []) ≡ true → advanceOk c s a ≡ true → a ≡ s
+as-wide : (c s a : ℕ) → isIn c groupClasses ≡ true → advanceOk c s a ≡ true → a ≡ s
 unfolding advanceOk advanceKind
 as-wide c s a e h =
     let f = eqb-true a s in
@@ -30,9 +31,9 @@ as-wide c s a e h =
 
 pub record Grouped (r : Rec) : Type 0 where
   pub size : sizeOk (r .size) ≡ true
-  pub ruby : within 1 64 (r .ruby) ≡ true
+  pub ruby : within 1 mostRuby (r .ruby) ≡ true
   pub low : 1 ≤ r .advance
-  pub high : r .advance ≤ 4000
+  pub high : r .advance ≤ largestSize
 
 pub in-group : (r : Rec) → Fine r → (r .group ≡ 0 → ⊥) → Grouped r
 in-group r e h =

@@ -15,7 +15,7 @@ use Rattle.rules.specs.Groups.{groupFault, units}
 use Rattle.rules.specs.Breaks.{noBreaking}
 use Rattle.rules.specs.Adjustment.{compose}
 use Rattle.rules.specs.Refusals.{Answer, says, orElse, judged}
-use Rattle.rules.proofs.Facts.{true-false}
+use Rattle.rules.proofs.Decisions.{true-false}
 
 abbrev by : Option ℕ → Option ℕ → Option ℕ → Option ℕ → ℕ → Answer
 by p l q r n = orElse 8 p (orElse 12 l (orElse 9 q (orElse 10 r (says 0 n))))

@@ -16,7 +16,7 @@ use Rattle.rules.specs.Refusals.{splice}
 use Rattle.rules.specs.Redone.{start}
 use Rattle.rules.proofs.NoBreaking.{counts-append}
 use Rattle.rules.proofs.Breaking.{breaking-choice}
-use Rattle.rules.proofs.Lengths.{length-linesOf, counts-units}
+use Rattle.rules.proofs.WordCounts.{length-linesOf, counts-units}
 use Rattle.rules.proofs.LineStarts.{broken, LineAt, line-at, some-line}
 use Rattle.rules.proofs.Splices.{splice-before}
 

@@ -11,15 +11,16 @@ use lib.Seq.{take-add}
 use Rattle.rules.specs.Basics.{Run, whole, joined, cut}
 use Rattle.rules.specs.Records.{Rec}
 use Rattle.rules.specs.Groups.{TextUnit, sameGroup, units, counts}
-use Rattle.rules.specs.Breaks.{bound, runs, filled, breaking}
-use Rattle.rules.specs.Meanings.{TiedRun}
-use Rattle.rules.proofs.Cuts.{joined-append, cut-joined, cut-tied, cut-first}
+use Rattle.rules.specs.Breaks.{forbiddenBetween, runs, filled, breaking}
+use Rattle.rules.specs.Meanings.{LinkedRun}
+use Rattle.rules.proofs.Cuts.{joined-append, cut-joined, cut-linked, cut-first}
 use Rattle.rules.proofs.Breaking.{filled-first}
 use Rattle.rules.proofs.NoBreaking.{counts-append}
-use Rattle.rules.proofs.Lengths.{counts-joined}
-use Rattle.rules.proofs.Parts.{all-first, all-back, cut-before, cut-after, cut-front}
-use Rattle.rules.proofs.Growing.{bound-alike, grown-no-easier, next-run}
-use Rattle.rules.proofs.Stops.{Stops, stops-filled, stops-joined, StopAt, stop-at, filled-holds}
+use Rattle.rules.proofs.WordCounts.{counts-joined}
+use Rattle.rules.proofs.CutParts.{cut-before, cut-after, cut-front}
+use Rattle.rules.proofs.All.{all-first, all-back}
+use Rattle.rules.proofs.Growing.{forbidden-alike, grown-no-easier, next-run}
+use Rattle.rules.proofs.BreakingStops.{Stops, stops-filled, stops-joined, StopAt, stop-at, filled-holds}
 
 -- the lines of records, as stretches of units
 abbrev pub broken : ℕ → ℕ → List Rec → List (Run TextUnit)
@@ -27,11 +28,12 @@ broken m x rs = breaking m x (runs (units rs))
 
 -- the records' runs l and `taken`, and `next` and others
 module _ (rs : List Rec) (l next : Run TextUnit) (taken others : List (Run TextUnit))
-    (e : cut bound (cut sameGroup rs) ≡ (l ∷ taken) ++ next ∷ others) where
+    (e : cut forbiddenBetween (cut sameGroup rs) ≡ (l ∷ taken) ++ next ∷ others) where
   units-parts : cut sameGroup rs ≡ joined (l ∷ taken) ++ (whole next ++ joined others)
   unfolding joined
   units-parts =
-      sym (cut-joined bound (cut sameGroup rs)) ∙ ap (λ js. joined js) e ∙ joined-append (l ∷ taken) (next ∷ others)
+      sym (cut-joined forbiddenBetween (cut sameGroup rs)) ∙ ap (λ js. joined js) e
+      ∙ joined-append (l ∷ taken) (next ∷ others)
 
   records-parts : rs ≡ joined (joined (l ∷ taken)) ++ (joined (whole next) ++ joined (joined others))
   records-parts =
@@ -44,19 +46,20 @@ module _ (rs : List Rec) (l next : Run TextUnit) (taken others : List (Run TextU
   next-units =
       cut-before sameGroup (joined (whole next ++ joined others)) (whole next) (joined others) (sym later-units)
 
-  next-tied : TiedRun bound next
-  next-tied = all-first (all-back (l ∷ taken) (next ∷ others) (rw e at (cut-tied bound (cut sameGroup rs))))
+  next-linked : LinkedRun forbiddenBetween next
+  next-linked =
+      all-first (all-back (l ∷ taken) (next ∷ others) (rw e at (cut-linked forbiddenBetween (cut sameGroup rs))))
 
-  later-runs : next ∷ others ≡ cut bound (cut sameGroup (joined (whole next) ++ joined (joined others)))
+  later-runs : next ∷ others ≡ cut forbiddenBetween (cut sameGroup (joined (whole next) ++ joined (joined others)))
   unfolding joined
   later-runs =
-      cut-after bound (cut sameGroup rs) (l ∷ taken) (next ∷ others) e
-      ∙ ap (λ us. cut bound us) (later-units ∙ rw (joined-append (whole next)))
+      cut-after forbiddenBetween (cut sameGroup rs) (l ∷ taken) (next ∷ others) e
+      ∙ ap (λ us. cut forbiddenBetween us) (later-units ∙ rw (joined-append (whole next)))
 
   -- whatever records follow the run `next`, the runs before it stay
   front-runs : (es : List Rec) →
-      cut bound (cut sameGroup (joined (joined (l ∷ taken)) ++ (joined (whole next) ++ es)))
-      ≡ (l ∷ taken) ++ cut bound (cut sameGroup (joined (whole next) ++ es))
+      cut forbiddenBetween (cut sameGroup (joined (joined (l ∷ taken)) ++ (joined (whole next) ++ es)))
+      ≡ (l ∷ taken) ++ cut forbiddenBetween (cut sameGroup (joined (whole next) ++ es))
   unfolding joined
   front-runs es =
       let us = joined (l ∷ taken) in
@@ -65,11 +68,11 @@ module _ (rs : List Rec) (l next : Run TextUnit) (taken others : List (Run TextU
       let f = cut-first sameGroup r qs in
       let g : cut sameGroup (joined us ++ r ∷ qs) ≡ us ++ cut sameGroup (r ∷ qs) =
       cut-front sameGroup rs us (next .first) (next .rest ++ joined others) units-parts r qs (λ a. refl) in
-      let h : cut bound (us ++ f .0 ∷ f .1) ≡ (l ∷ taken) ++ cut bound (f .0 ∷ f .1) =
-      cut-front bound (cut sameGroup rs) (l ∷ taken) next others e (f .0) (f .1)
-      (λ u. bound-alike u (f .0) (next .first) (f .3)) in
-      ap (λ vs. cut bound vs) (g ∙ ap (λ vs. us ++ vs) (f .2)) ∙ h
-      ∙ ap (λ vs. (l ∷ taken) ++ cut bound vs) (sym (f .2))
+      let h : cut forbiddenBetween (us ++ f .0 ∷ f .1) ≡ (l ∷ taken) ++ cut forbiddenBetween (f .0 ∷ f .1) =
+      cut-front forbiddenBetween (cut sameGroup rs) (l ∷ taken) next others e (f .0) (f .1)
+      (λ u. forbidden-alike u (f .0) (next .first) (f .3)) in
+      ap (λ vs. cut forbiddenBetween vs) (g ∙ ap (λ vs. us ++ vs) (f .2)) ∙ h
+      ∙ ap (λ vs. (l ∷ taken) ++ cut forbiddenBetween vs) (sym (f .2))
 
   -- the lines that l and `taken` fill stay too
   front-lines : (m x : ℕ) (ls : List (Run TextUnit)) → Stops m x l taken next ls → (es : List Rec) →
@@ -77,7 +80,7 @@ module _ (rs : List Rec) (l next : Run TextUnit) (taken others : List (Run TextU
       ≡ ls ++ broken m 0 (joined (whole next) ++ es)
   unfolding runs units breaking
   front-lines m x ls s es =
-      let n = next-run next next-tied next-units es in
+      let n = next-run next next-linked next-units es in
       ap (λ js. breaking m x js) (front-runs es ∙ ap (λ js. (l ∷ taken) ++ js) (n .all))
       ∙ stops-filled s (n .run) (n .others) (grown-no-easier next (n .run) (n .grown))
       ∙ ap (λ js. ls ++ breaking m 0 js) (sym (n .all))
@@ -104,10 +107,11 @@ one-more : (n : ℕ) (ls : List (Run TextUnit)) →
 one-more n ls = rw (← add-one n, take-add, joined-append, counts-append)
 
 stop-line : (m x : ℕ) (rs : List Rec) (l : Run TextUnit) (ks : List (Run TextUnit)) (n : ℕ) →
-    cut bound (cut sameGroup rs) ≡ l ∷ ks → StopAt m x l ks n → LineAt m x rs n
+    cut forbiddenBetween (cut sameGroup rs) ≡ l ∷ ks → StopAt m x l ks n → LineAt m x rs n
 unfolding runs units breaking
 stop-line m x rs l ks n e s =
-    let p : cut bound (cut sameGroup rs) ≡ (l ∷ s .taken) ++ s .next ∷ s .others = e ∙ ap (λ ks. l ∷ ks) (s .all) in
+    let p : cut forbiddenBetween (cut sameGroup rs) ≡ (l ∷ s .taken) ++ s .next ∷ s .others =
+    e ∙ ap (λ ks. l ∷ ks) (s .all) in
     let b : broken m x rs ≡ filled m x l ks = ap (λ ls. breaking m x ls) e in
     let us = joined (l ∷ s .taken) in
     let c = counts-joined us in
@@ -139,9 +143,9 @@ stop-line m x rs l ks n e s =
 -- a line but the first, and where it starts
 pub line-at : (m x : ℕ) (rs : List Rec) (n : ℕ) → suc n < length (broken m x rs) → LineAt m x rs (suc n)
 unfolding runs units breaking
-line-at m x rs n h = from (cut bound (cut sameGroup rs)) refl
+line-at m x rs n h = from (cut forbiddenBetween (cut sameGroup rs)) refl
   where
-    from : (ls : List (Run TextUnit)) → cut bound (cut sameGroup rs) ≡ ls → LineAt m x rs (suc n)
+    from : (ls : List (Run TextUnit)) → cut forbiddenBetween (cut sameGroup rs) ≡ ls → LineAt m x rs (suc n)
     from [] e = absurd (omega (arith, ap (λ ls. length (breaking m x ls)) e))
     from (l ∷ ks) e =
         stop-line m x rs l ks (suc n) e
@@ -153,6 +157,6 @@ pub some-line : (m x : ℕ) (r : Rec) (rs : List Rec) →
 unfolding runs units breaking
 some-line m x r rs =
     let f = cut-first sameGroup r rs in
-    let g = cut-first bound (f .0) (f .1) in
+    let g = cut-first forbiddenBetween (f .0) (f .1) in
     let h = filled-first m x (g .0) (g .1) in
-    (h .0, h .1, ap (λ us. breaking m x (cut bound us)) (f .2) ∙ ap (λ ls. breaking m x ls) (g .2) ∙ h .2)
+    (h .0, h .1, ap (λ us. breaking m x (cut forbiddenBetween us)) (f .2) ∙ ap (λ ls. breaking m x ls) (g .2) ∙ h .2)

@@ -12,10 +12,11 @@ use Rattle.lists.specs.Ranges.{Range, range, inRange, hasCode}
 use Rattle.lists.specs.Lists.{ClassList, list, inLists, inList, lists}
 use Rattle.lists.proofs.Claims.{in-list-means}
 use Rattle.rules.specs.Basics.{isIn}
+use Rattle.rules.specs.Limits.{highestCode}
 use Rattle.rules.specs.Records.{Rec, codeOk, classes, classOk}
 use Rattle.rules.specs.Listed.{isListed, notListed}
 use Rattle.rules.specs.Meanings.{All, all-none, all-more, FirstLacking, Listed}
-use Rattle.rules.proofs.Facts.{tested, true-false}
+use Rattle.rules.proofs.Decisions.{tested, true-false}
 use Rattle.rules.proofs.FirstFailing.{none-fails, all-pass, fails-first, lacking-fails}
 
 -- the class whose list it is
@@ -65,7 +66,7 @@ first-not-listed rs i = (
 -- what is in a list keeps two of a record's own rules: each list is a class's, and has code points in order ---------
 
 abbrev ordinary : Range → Bool
-ordinary (range a b) = leb b 0x10FFFF && (ltb b 0xD800 || ltb 0xDFFF a)
+ordinary (range a b) = leb b highestCode && (ltb b 0xD800 || ltb 0xDFFF a)
 
 abbrev allOrdinary : List Range → Bool
 allOrdinary [] = true
@@ -85,14 +86,14 @@ range-code k (range a b) o h =
     let in-it = and-eq-true-iff (leb a k) (leb k b) .0 h in
     let low = leb-true a k (in-it .0) in
     let high = leb-true k b (in-it .1) in
-    let both = and-eq-true-iff (leb b 0x10FFFF) _ .0 o in
-    let most = leb-true b 0x10FFFF (both .0) in
+    let both = and-eq-true-iff (leb b highestCode) _ .0 o in
+    let most = leb-true b highestCode (both .0) in
     elim (tested (ltb b 0xD800)) [
-      | inl e ↦ let l = ltb-true b 0xD800 e in rw (le-leb k 0x10FFFF (omega arith), lt-leb 0xD800 k (omega arith))
+      | inl e ↦ let l = ltb-true b 0xD800 e in rw (le-leb k highestCode (omega arith), lt-leb 0xD800 k (omega arith))
       | inr e ↦
           let f : ltb 0xDFFF a ≡ true = rw e at (both .1) in
           let l = ltb-true 0xDFFF a f in
-          rw (le-leb k 0x10FFFF (omega arith), le-leb 0xD800 k (omega arith), lt-leb k 0xDFFF (omega arith))
+          rw (le-leb k highestCode (omega arith), le-leb 0xD800 k (omega arith), lt-leb k 0xDFFF (omega arith))
     ]
 
 ranges-code : (k : ℕ) (rs : List Range) → allOrdinary rs ≡ true → hasCode k rs ≡ true → codeOk k ≡ true

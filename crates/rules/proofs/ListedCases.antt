@@ -1,5 +1,5 @@
 -- Document 02, request 04, "Classes checked against the published lists", as cases worked by hand: one table, with one
--- claim over all rows that the checker computes. What a row wants is told in Worked.antt. Assumes nothing.
+-- claim over all rows that the checker computes. What a row wants is told in WorkedCases.antt. Assumes nothing.
 --
 --   of class     a record by class and code point, as wide as its size
 --   of a group   a kanji of a group with a ruby count
@@ -8,7 +8,7 @@ use Prim.Native.Nat.{ℕ}
 use mathlib.Core.Bool.{true}
 use mathlib.Core.List.{List, [], _∷_}
 use Rattle.rules.specs.Records.{Rec}
-use Rattle.rules.proofs.Worked.{sized, K, Row, row, right, worked}
+use Rattle.rules.proofs.WorkedCases.{sized, K, Row, row, right, worked}
 
 abbrev ofClass : ℕ → ℕ → Rec
 ofClass c k = sized k c 80 0 0

@@ -17,8 +17,8 @@ use Rattle.rules.specs.Sheet.{placesOf, placeWords, lineWords}
 use Rattle.rules.specs.Meanings.{All, all-none, all-more}
 use Rattle.rules.specs.Redone.{start}
 use Rattle.rules.specs.Stable.{StableAround, usedBy, movedLines, movedPlaces, WordsStable}
-use Rattle.rules.proofs.Facts.{ordered, cons-path}
-use Rattle.rules.proofs.Lengths.{length-xs, length-placesOf}
+use Rattle.rules.proofs.Decisions.{ordered, cons-path}
+use Rattle.rules.proofs.WordCounts.{length-xs, length-placesOf}
 
 -- Words of lines up to a line, and from it on ------------------------------------------------------------------------
 

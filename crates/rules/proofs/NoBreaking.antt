@@ -12,7 +12,7 @@ use Rattle.rules.specs.Basics.{Run, whole, joined}
 use Rattle.rules.specs.Groups.{TextUnit, counts}
 use Rattle.rules.specs.Breaks.{width, runs, wideRun, noBreaking, breaking}
 use Rattle.rules.specs.Meanings.{Choice, Fits, fits-none, fits-more, startOf, FirstWide}
-use Rattle.rules.proofs.Facts.{tested, some-none, some-same}
+use Rattle.rules.proofs.Decisions.{tested, some-none, some-same}
 use Rattle.rules.proofs.Breaking.{fit-runs, choice-runs, breaking-choice, lines-fit}
 
 -- Answer 10 is not due exactly where some choice of permitted breaks fits

@@ -11,7 +11,7 @@ use borrow.Author.Tests.{eqb-true, eqb-false, eq-eqb, ne-eqb}
 use Rattle.rules.specs.Sheet.{Setting, withUse}
 use Rattle.rules.specs.Pool.{OwnSlot, ownAmong, lowestFree}
 use Rattle.rules.specs.LowestFree.{FreeAt, Found, found, not-found}
-use Rattle.rules.proofs.Facts.{tested, ordered}
+use Rattle.rules.proofs.Decisions.{tested, ordered}
 
 module _ (settings : ℕ → Setting) (clinic : ℕ) where
   abbrev own : ℕ → ℕ → List OwnSlot

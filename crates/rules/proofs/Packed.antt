@@ -2,8 +2,7 @@
 use mathlib.Core.Path.{_≡_, ap, sym, _∙_}
 use Prim.Native.Nat.{ℕ, _+_, _*_, _/_, _%_, _^_, _≤_, _<_}
 use native.Mathlib.Omega.{arith}
-use Rattle.rules.specs.Gaps.{Gap, least}
-use Rattle.rules.specs.Adjustment.{plus}
+use Rattle.rules.specs.Gaps.{Gap, least, plus}
 use Rattle.rules.specs.Packed.{packed, leastIn, unpacked, Packs, AtMost}
 
 -- one addition sums the space and all capacities

@@ -1,5 +1,5 @@
 -- Document 02, request 01, "Five percent must stay together", as cases worked by hand: one table, with one claim over
--- all rows that the checker computes. What a row wants is told in Worked.antt. Assumes nothing.
+-- all rows that the checker computes. What a row wants is told in WorkedCases.antt. Assumes nothing.
 --
 --   letter       a record of class 27 by code point, half its size wide: a digit where it is U+0030 to U+0039
 --   percent      %, of class 13
@@ -9,7 +9,7 @@ use Prim.Native.Nat.{ℕ}
 use mathlib.Core.Bool.{true}
 use mathlib.Core.List.{List, [], _∷_}
 use Rattle.rules.specs.Records.{Rec}
-use Rattle.rules.proofs.Worked.{sized, K, Row, row, right, worked}
+use Rattle.rules.proofs.WorkedCases.{sized, K, Row, row, right, worked}
 
 abbrev letter : ℕ → Rec
 letter c = sized c 27 40 0 0

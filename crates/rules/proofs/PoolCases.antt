@@ -2,12 +2,13 @@
 -- clinics and in-use words, and calls on the slot of a sheet of one. Each is one table, with one claim over all rows
 -- that the checker computes. Assumes nothing.
 use mathlib.Core.Path.{_≡_, refl}
-use Prim.Native.Nat.{ℕ, _*_}
-use mathlib.Core.List.{List, [], _∷_, _++_, map}
-use lib.ListN.{length, getD, replicate}
+use Prim.Native.Nat.{ℕ, _*_, _-_}
+use mathlib.Core.List.{List, [], _∷_, map}
+use lib.ListN.{length, getD}
 use Rattle.rules.specs.Basics.{zeros}
+use Rattle.rules.specs.Layout.{slotLength}
 use Rattle.rules.specs.Sheet.{Setting, setting, withUse}
-use Rattle.rules.specs.Refusals.{Answer, says, callRows, called}
+use Rattle.rules.specs.Refusals.{Answer, says, entryRows, entryAnswer}
 use Rattle.rules.specs.Pool.{ownAmong, lowestFree, takeRows, takeAnswer}
 
 -- a slot's clinic and in-use word
@@ -30,7 +31,7 @@ settings ss k = let s = getD ss k (0, 0) in withUse (setting (s .0) 800 0) (s .1
 pub answered : TakeCase → Answer
 answered t =
     let n = length (t .slots) in
-    takeAnswer (2824 * n) (t .caller) (ownAmong (settings (t .slots)) (t .caller) 0 n)
+    takeAnswer (slotLength * n) (t .caller) (ownAmong (settings (t .slots)) (t .caller) 0 n)
 
 abbrev pub wanted-answer : TakeCase → Answer
 wanted-answer t = t .want
@@ -79,7 +80,8 @@ call clinic word c k n = record { head = (clinic, word); caller = c; slot = k; w
 -- the number of the rows 1 to 3 and 14 on a sheet of one slot, which is fresh but for its in-use word
 pub numbered : CallCase → ℕ
 numbered t =
-    let ws = t .head .0 ∷ 800 ∷ 0 ∷ 0 ∷ 0 ∷ t .head .1 ∷ zeros 2818 in called ws (t .caller) (t .slot) .number
+    let ws = t .head .0 ∷ 800 ∷ 0 ∷ 0 ∷ 0 ∷ t .head .1 ∷ zeros (slotLength - 6) in
+    entryAnswer ws (t .caller) (t .slot) .number
 
 abbrev pub due : CallCase → ℕ
 due t = t .want
@@ -102,5 +104,5 @@ calls =
     ∷ []
 
 pub calls-hold : map numbered calls ≡ map due calls
-unfolding called callRows zeros numbered calls
+unfolding entryAnswer entryRows zeros numbered calls
 calls-hold = refl

@@ -11,13 +11,13 @@ use Prim.Native.Nat.{ℕ}
 use mathlib.Core.Bool.{Bool, true, _&&_}
 use mathlib.Core.List.{List, [], _∷_, _++_}
 use lib.ListN.{length, replicate}
-use Rattle.lists.proofs.Facts.{same}
+use Rattle.lists.proofs.Decisions.{same}
 use Rattle.rules.specs.Records.{Rec, recOf}
 use Rattle.rules.specs.Groups.{units}
 use Rattle.rules.specs.Adjustment.{compose}
 use Rattle.rules.specs.Redone.{firstRedone, resumed}
 use Rattle.rules.specs.Refusals.{judged, splice, linesRedone}
-use Rattle.rules.proofs.Worked.{sized, K, worked}
+use Rattle.rules.proofs.WorkedCases.{sized, K, worked}
 
 abbrev full-stop : Rec
 full-stop = sized 0x3002 6 40 0 0

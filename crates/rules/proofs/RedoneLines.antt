@@ -13,7 +13,7 @@ use Rattle.rules.specs.Adjustment.{Line, compose}
 use Rattle.rules.specs.Refusals.{splice}
 use Rattle.rules.specs.Redone.{start, firstRedone, resumed, report}
 use Rattle.rules.specs.Stable.{StableAround, Resumes, usedBy, StableEdit}
-use Rattle.rules.proofs.Facts.{ordered}
+use Rattle.rules.proofs.Decisions.{ordered}
 use Rattle.rules.proofs.Splices.{splice-after}
 use Rattle.rules.proofs.KeptLines.{lines-from, lines-kept}
 use Rattle.rules.proofs.EditLine.{before-place, f-within}

@@ -12,7 +12,7 @@ use Rattle.rules.specs.Basics.{isIn}
 use Rattle.rules.specs.Adjustment.{Line}
 use Rattle.rules.specs.Redone.{starts, start, firstRedone, resumes, resumed}
 use Rattle.rules.specs.Stable.{Resumes}
-use Rattle.rules.proofs.Facts.{tested, true-false, unmet}
+use Rattle.rules.proofs.Decisions.{tested, true-false, unmet}
 use Rattle.rules.proofs.FirstLines.{resumed-first, first-only}
 
 -- a number among the starts of lines is the start of one of them

@@ -1,11 +1,11 @@
 -- Document 02, request 06, "Both rows end together", as cases worked by hand: one table, with one claim over all rows
--- that the checker computes. What a row wants is told in Worked.antt. Assumes nothing.
+-- that the checker computes. What a row wants is told in WorkedCases.antt. Assumes nothing.
 use mathlib.Core.Path.{_≡_, refl}
 use Prim.Native.Nat.{ℕ}
 use mathlib.Core.Bool.{true}
 use mathlib.Core.List.{List, [], _∷_}
 use Rattle.rules.specs.Records.{Rec}
-use Rattle.rules.proofs.Worked.{sized, K, Row, row, right, worked}
+use Rattle.rules.proofs.WorkedCases.{sized, K, Row, row, right, worked}
 
 -- a kanji of group 1, which has n ruby characters of 40
 abbrev under : ℕ → Rec

@@ -9,15 +9,16 @@ use mathlib.Core.Logic.{inl, inr}
 use mathlib.Core.Option.{none}
 use lib.ListN.{length, drop}
 use borrow.Author.Tests.{le-leb, lt-ltb}
-use Rattle.rules.specs.Basics.{whole, joined, tie, cut}
+use Rattle.rules.specs.Basics.{whole, joined, link, cut}
+use Rattle.rules.specs.Limits.{largestSize, mostRuby, mostGrouped, largestBase}
 use Rattle.rules.specs.Records.{Rec, badRecord}
 use Rattle.rules.specs.Groups.{TextUnit, sameGroup, groupFault, units, count, advances, baseTotal, rubyOk}
 use Rattle.rules.specs.Groups.{rubyPlace}
 use Rattle.rules.specs.Refusals.{judged}
 use Rattle.rules.specs.Meanings.{All, all-none, all-more, OneUnit, single, grouped, RubyPlaced}
 use Rattle.rules.proofs.Cuts.{cut-joined, units-one}
-use Rattle.rules.proofs.Parts.{all-front, all-back, all-first}
-use Rattle.rules.proofs.Facts.{tested}
+use Rattle.rules.proofs.All.{all-front, all-back, all-first}
+use Rattle.rules.proofs.Decisions.{tested}
 use Rattle.rules.proofs.Judged.{judged-passes}
 use Rattle.rules.proofs.GroupLimits.{headCount, units-few}
 use Rattle.rules.proofs.Bounds.{within-low}
@@ -26,7 +27,7 @@ use Rattle.rules.proofs.GroupedRecords.{Fine, all-fine, Grouped, in-gro
 -- One unit ---------------------------------------------------------------------------------------------------------
 
 abbrev Few : TextUnit → Type 0
-Few u = count u ≤ 16
+Few u = count u ≤ mostGrouped
 
 abbrev FineUnit : TextUnit → Type 0
 FineUnit u = All Fine (whole u)
@@ -40,7 +41,7 @@ all-grouped {u} (grouped m hs) (all-more f fs) n = all-more (in-group (u .first)
     others all-none all-none = all-none
     others (all-more {a = r} h hs) (all-more f fs) = all-more (in-group r f (λ z. n (sym h ∙ z))) (others hs fs)
 
-sum-high : {rs : List Rec} → All Grouped rs → advances rs ≤ 4000 * length rs
+sum-high : {rs : List Rec} → All Grouped rs → advances rs ≤ largestSize * length rs
 unfolding advances
 sum-high all-none = omega arith
 sum-high (all-more h hs) = omega (arith, h .high, sum-high hs)
@@ -49,7 +50,7 @@ unit-placed : (u : TextUnit) → OneUnit u → FineUnit u → Few u → RubyPlac
 unfolding rubyPlace
 unit-placed u one fine few =
     record {
-      some-ruby = λ n. within-low 1 64 (u .first .ruby) (all-first (all-grouped one fine n) .ruby);
+      some-ruby = λ n. within-low 1 mostRuby (u .first .ruby) (all-first (all-grouped one fine n) .ruby);
       within-limits = limits;
       offset = λ k h. rw (limits k h);
     }
@@ -62,7 +63,7 @@ unit-placed u one fine few =
           all-first all .ruby,
           lt-ltb k (u .first .ruby) h,
           le-leb 1 (baseTotal u) (unfold advances in omega (arith, all-first all .low)),
-          le-leb (baseTotal u) 64000 (omega (arith, sum-high all)),
+          le-leb (baseTotal u) largestBase (omega (arith, sum-high all)),
         )
 
 -- All units --------------------------------------------------------------------------------------------------------
@@ -73,12 +74,13 @@ all-joined [] h = all-none
 all-joined (u ∷ us) h =
     all-more (all-front (whole u) (joined us) h) (all-joined us (all-back (whole u) (joined us) h))
 
-all-few : (rs : List Rec) → ((k : ℕ) → headCount (units (drop k rs)) ≤ 16) → All Few (units rs)
+all-few : (rs : List Rec) → ((k : ℕ) → headCount (units (drop k rs)) ≤ mostGrouped) → All Few (units rs)
 unfolding units cut
 all-few [] h = all-none
 all-few (r ∷ rs) h = longer (all-few rs (λ k. h (suc k))) (h 0)
   where
-    longer : {us : List TextUnit} → All Few us → headCount (tie sameGroup r us) ≤ 16 → All Few (tie sameGroup r us)
+    longer : {us : List TextUnit} → All Few us → headCount (link sameGroup r us) ≤ mostGrouped →
+        All Few (link sameGroup r us)
     longer all-none b = all-more b all-none
     longer (all-more {a = u} f fs) b =
         elim (tested (sameGroup r (u .first))) [

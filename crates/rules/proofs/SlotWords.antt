@@ -8,6 +8,8 @@ use mathlib.Core.List.{List, [], _∷_, _++_, append-assoc, append-nil}
 use lib.ListN.{length, getD, set, take, drop, length-append}
 use lib.Seq.{getD-append-add, getD-take, take-at, drop-at}
 use Rattle.rules.specs.Basics.{cut, zeros, padded}
+use Rattle.rules.specs.Layout.{mostRecords, headLength, recordsLength, placesLength, linesLength, slotLength}
+use Rattle.rules.specs.Layout.{placesAt, linesAt}
 use Rattle.rules.specs.Records.{Rec, recAt, records, recordWords}
 use Rattle.rules.specs.Groups.{units}
 use Rattle.rules.specs.Breaks.{runs, breaking}
@@ -17,9 +19,9 @@ use Rattle.rules.specs.Sheet.{clinicOf, measureOf, indentOf, inUseOf, se
 use Rattle.rules.specs.Pool.{emptied}
 use Rattle.rules.specs.Redone.{start}
 use Rattle.rules.specs.Stable.{usedBy, usedOf, AsRuled}
-use Rattle.rules.proofs.Facts.{cons-path}
+use Rattle.rules.proofs.Decisions.{cons-path}
 use Rattle.rules.proofs.Zeros.{length-zeros, zeros-append}
-use Rattle.rules.proofs.Lengths.{length-lineWords, composed-places, composed-few}
+use Rattle.rules.proofs.WordCounts.{length-lineWords, composed-places, composed-few}
 
 -- Records as words --------------------------------------------------------------------------------------------------
 
@@ -74,13 +76,13 @@ module _ (t : Setting) (rs : List Rec) where
   first = head t (length rs) (length lines)
 
   abbrev second : List ℕ
-  second = padded 1536 (recordWords rs)
+  second = padded recordsLength (recordWords rs)
 
   abbrev third : List ℕ
-  third = padded 512 (placeWords 0 lines)
+  third = padded placesLength (placeWords 0 lines)
 
   abbrev fourth : List ℕ
-  fourth = padded 768 (lineWords 0 lines)
+  fourth = padded linesLength (lineWords 0 lines)
 
   -- the head and the records are read back
   pub slot-setting : settingOf (slotWords t rs) ≡ t
@@ -112,68 +114,69 @@ module _ (t : Setting) (rs : List Rec) where
   pub slot-records : recordsOf (slotWords t rs) ≡ rs
   unfolding slotWords
   slot-records =
-      let rest : List ℕ = zeros (1536 - length (recordWords rs)) in
+      let rest : List ℕ = zeros (recordsLength - length (recordWords rs)) in
       let parts : slotWords t rs ≡ first ++ (recordWords rs ++ (rest ++ (third ++ fourth)))
       = simp append-assoc in
       ap (λ w. records (drop 8 w) 0 (length rs)) parts ∙ records-of-words rs (rest ++ (third ++ fourth))
 
-  module _ (few : length rs ≤ 256) where
-    length-second : length second ≡ 1536
-    length-second = length-padded 1536 (recordWords rs) (omega (arith, length-record-words rs))
+  module _ (few : length rs ≤ mostRecords) where
+    length-second : length second ≡ recordsLength
+    length-second = length-padded recordsLength (recordWords rs) (omega (arith, length-record-words rs))
 
-    length-third : length third ≡ 512
-    length-third = length-padded 512 (placeWords 0 lines) (omega (arith, composed-places (t .measure) (t .indent) rs))
+    length-third : length third ≡ placesLength
+    length-third =
+        length-padded placesLength (placeWords 0 lines) (omega (arith, composed-places (t .measure) (t .indent) rs))
 
-    length-fourth : length fourth ≡ 768
+    length-fourth : length fourth ≡ linesLength
     length-fourth =
         let few-lines = composed-few (t .measure) (t .indent) rs in
-        length-padded 768 (lineWords 0 lines) (omega (arith, length-lineWords 0 lines, few-lines))
+        length-padded linesLength (lineWords 0 lines) (omega (arith, length-lineWords 0 lines, few-lines))
 
-    length-three : length (first ++ second ++ third) ≡ 2056
+    length-three : length (first ++ second ++ third) ≡ linesAt
     length-three =
         length-append (first ++ second) third
         ∙ omega (arith, length-append first second, length-second, length-third)
 
     -- a slot has 2,824 words
-    pub length-slot : length (slotWords t rs) ≡ 2824
+    pub length-slot : length (slotWords t rs) ≡ slotLength
     unfolding slotWords
     length-slot = length-append (first ++ second ++ third) fourth ∙ omega (arith, length-three, length-fourth)
 
     -- the used ones of its places stand from word 1544 on
-    pub slot-places : take (2 * length rs) (drop 1544 (slotWords t rs)) ≡ placeWords 0 lines
+    pub slot-places : take (2 * length rs) (drop placesAt (slotWords t rs)) ≡ placeWords 0 lines
     unfolding slotWords
     slot-places =
-        let rest : List ℕ = zeros (512 - length (placeWords 0 lines)) in
+        let rest : List ℕ = zeros (placesLength - length (placeWords 0 lines)) in
         let parts : slotWords t rs ≡ (first ++ second) ++ (placeWords 0 lines ++ (rest ++ fourth))
         = simp append-assoc in
-        let two : length (first ++ second) ≡ 1544 = length-append first second ∙ omega (arith, length-second) in
-        ap (λ w. take (2 * length rs) (drop 1544 w)) parts
-        ∙ ap (take (2 * length rs)) (drop-at (first ++ second) (placeWords 0 lines ++ (rest ++ fourth)) 1544 two)
+        let two : length (first ++ second) ≡ placesAt = length-append first second ∙ omega (arith, length-second) in
+        ap (λ w. take (2 * length rs) (drop placesAt w)) parts
+        ∙ ap (take (2 * length rs)) (drop-at (first ++ second) (placeWords 0 lines ++ (rest ++ fourth)) placesAt two)
         ∙ take-at (placeWords 0 lines) (rest ++ fourth) (2 * length rs) (composed-places (t .measure) (t .indent) rs)
 
     -- and those of its lines from word 2056 on
-    from-lines : drop 2056 (slotWords t rs) ≡ fourth
+    from-lines : drop linesAt (slotWords t rs) ≡ fourth
     unfolding slotWords
-    from-lines = drop-at (first ++ second ++ third) fourth 2056 length-three
+    from-lines = drop-at (first ++ second ++ third) fourth linesAt length-three
 
-    pub slot-lines : take (3 * length lines) (drop 2056 (slotWords t rs)) ≡ lineWords 0 lines
+    pub slot-lines : take (3 * length lines) (drop linesAt (slotWords t rs)) ≡ lineWords 0 lines
     slot-lines =
         ap (take (3 * length lines)) from-lines
         ∙ take-at (lineWords 0 lines) _ (3 * length lines) (length-lineWords 0 lines)
 
     pub slot-used : usedOf (slotWords t rs) ≡ usedBy lines
     slot-used =
-        let places = ap (λ n. take (2 * n) (drop 1544 (slotWords t rs))) slot-count ∙ slot-places in
-        let words = ap (λ n. take (3 * n) (drop 2056 (slotWords t rs))) slot-line-count ∙ slot-lines in
+        let places = ap (λ n. take (2 * n) (drop placesAt (slotWords t rs))) slot-count ∙ slot-places in
+        let words = ap (λ n. take (3 * n) (drop linesAt (slotWords t rs))) slot-line-count ∙ slot-lines in
         λ i. record { places = places i; lines = words i }
 
     pub slot-as-ruled : AsRuled (slotWords t rs)
     slot-as-ruled = slot-used ∙ rw (slot-measure, slot-indent, slot-records)
 
     -- the first record of each line
-    pub slot-firsts : (j : ℕ) → j < length lines → getD (drop 2056 (slotWords t rs)) (3 * j) 0 ≡ start j lines
+    pub slot-firsts : (j : ℕ) → j < length lines → getD (drop linesAt (slotWords t rs)) (3 * j) 0 ≡ start j lines
     slot-firsts j h =
-        sym (getD-take (3 * length lines) (drop 2056 (slotWords t rs)) (3 * j) 0 (omega arith))
+        sym (getD-take (3 * length lines) (drop linesAt (slotWords t rs)) (3 * j) 0 (omega arith))
         ∙ ap (λ ws. getD ws (3 * j) 0) slot-lines ∙ omega (arith, line-first 0 lines j h)
 
 two-zeros : zeros 2 ≡ 0 ∷ 0 ∷ []
@@ -185,8 +188,9 @@ pub slot-fresh : (t : Setting) → slotWords t [] ≡ fresh t
 unfolding slotWords compose units cut runs breaking linesOf recordWords placeWords lineWords
 slot-fresh t =
     let after : List ℕ → List ℕ = λ l. t .clinic ∷ t .measure ∷ t .indent ∷ 0 ∷ 0 ∷ t .inUse ∷ l in
-    let z : zeros 1536 ++ zeros 512 ++ zeros 768 ≡ zeros 2816
-    = ap (λ l. l ++ zeros 768) (zeros-append 1536 512) ∙ zeros-append 2048 768 in
+    let z : zeros recordsLength ++ zeros placesLength ++ zeros linesLength ≡ zeros (slotLength - headLength)
+    = ap (λ l. l ++ zeros linesLength) (zeros-append recordsLength placesLength)
+    ∙ zeros-append (recordsLength + placesLength) linesLength in
     ap (λ l. after (0 ∷ 0 ∷ l)) z
     ∙ ap (λ l. after (l ++ zeros 2816)) (sym two-zeros)
     ∙ ap after (zeros-append 2 2816)
@@ -199,4 +203,4 @@ three-zeros = refl
 pub emptied-fresh : (s : List ℕ) → emptied s ≡ fresh (setting (clinicOf s) (measureOf s) (indentOf s))
 emptied-fresh s =
     let after : List ℕ → List ℕ = λ l. clinicOf s ∷ measureOf s ∷ indentOf s ∷ l in
-    ap after (sym (zeros-append 3 2818)) ∙ ap (λ l. after (l ++ zeros 2818)) three-zeros
+    ap after (sym (zeros-append 3 (slotLength - 6))) ∙ ap (λ l. after (l ++ zeros (slotLength - 6))) three-zeros

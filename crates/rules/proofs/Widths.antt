@@ -5,7 +5,7 @@ use native.Mathlib.Omega.{arith}
 use mathlib.Core.List.{List, [], _∷_, _++_}
 use Rattle.rules.specs.Groups.{TextUnit}
 use Rattle.rules.specs.Space.{Space}
-use Rattle.rules.specs.Gaps.{Flexibility, early, late, rigid, gapBy, gapOf, least}
+use Rattle.rules.specs.Gaps.{Flexibility, punctuation, japanese-western, fixed, gapBy, gapOf, least}
 use Rattle.rules.specs.Breaks.{gap, smallest}
 use Rattle.rules.specs.Adjustment.{totals, unitAdvances}
 use Rattle.rules.specs.Meanings.{lastOf}
@@ -18,19 +18,19 @@ wider u [] (v ∷ vs) = omega arith
 wider u (w ∷ us) vs = omega (arith, wider w us vs)
 
 -- the smallest width of two runs, one after the other
-pub width-then : (u : TextUnit) (us : List TextUnit) (v : TextUnit) (vs : List TextUnit) →
+pub width-extended : (u : TextUnit) (us : List TextUnit) (v : TextUnit) (vs : List TextUnit) →
     smallest u (us ++ v ∷ vs) ≡ smallest u us + (least (gap (lastOf u us) v) + smallest v vs)
 unfolding smallest
-width-then u [] v vs = refl
-width-then u (t ∷ us) v vs = omega (arith, width-then t us v vs)
+width-extended u [] v vs = refl
+width-extended u (t ∷ us) v vs = omega (arith, width-extended t us v vs)
 
 -- a gap gives no more than it has
 gives-by : (f : Flexibility) (p : Space) (l r w : ℕ) →
     gapBy f p l r w .shrink₁ + gapBy f p l r w .shrink₂ ≤ gapBy f p l r w .space
 unfolding gapBy
-gives-by early p l r w = omega arith
-gives-by late p l r w = omega arith
-gives-by rigid p l r w = omega arith
+gives-by punctuation p l r w = omega arith
+gives-by japanese-western p l r w = omega arith
+gives-by fixed p l r w = omega arith
 
 pub gives : (u v : TextUnit) → gap u v .shrink₁ + gap u v .shrink₂ ≤ gap u v .space
 unfolding gapOf

@@ -3,6 +3,8 @@
 --   natural width    a line's advances and spaces, as they are
 --   amount           E: what a stage takes from a line's gaps, or adds to them
 --   total            C: what the capacities of a stage add up to over a line; S_i: up to gap i, its own included
+--   share            of a gap: what it gets of an amount; the cumulative share of gap i: what the gaps up to it get
+--   excess           how much wider than the measure a line is; shortfall: how much narrower
 --   kind             1 flush, 行頭行末そろえ; 2 short, a line that cannot be stretched; 3 final, 段落の最終行
 --
 -- Assumes nothing.
@@ -12,25 +14,11 @@ use mathlib.Core.List.{List, [], _∷_, _++_, map}
 use lib.Dec.{ltb, eqb}
 use Rattle.rules.specs.Basics.{Run, whole}
 use Rattle.rules.specs.Groups.{TextUnit, advance, counts, baseOffsets}
-use Rattle.rules.specs.Gaps.{Gap}
+use Rattle.rules.specs.Gaps.{Gap, plus, noGaps}
 use Rattle.rules.specs.Breaks.{gap, runs, breaking}
 
--- gaps added up, field by field
-abbrev pub plus : Gap → Gap → Gap
-plus g h =
-    record {
-      space = g .space + h .space;
-      shrink₁ = g .shrink₁ + h .shrink₁;
-      shrink₂ = g .shrink₂ + h .shrink₂;
-      stretch₁ = g .stretch₁ + h .stretch₁;
-      stretch₂ = g .stretch₂ + h .stretch₂;
-    }
-
-abbrev pub nothing : Gap
-nothing = record { space = 0; shrink₁ = 0; shrink₂ = 0; stretch₁ = 0; stretch₂ = 0 }
-
 unfoldable pub totals : TextUnit → List TextUnit → Gap
-totals u [] = nothing
+totals u [] = noGaps
 totals u (v ∷ us) = plus (gap u v) (totals v us)
 
 -- what a line's gaps add up to
@@ -52,14 +40,15 @@ pub record Amounts : Type 0 where
   pub stretch₁ : ℕ
   pub stretch₂ : ℕ
 
--- of a line that is `over` too wide or `under` too narrow: "A stage is filled before the next begins."
+-- of a line that is wider than the measure by an excess, or narrower by a shortfall: "A stage is filled before the next
+-- begins."
 unfoldable pub amounts : ℕ → ℕ → Gap → Amounts
-amounts over under c =
+amounts excess shortfall c =
     record {
-      shrink₁ = min over (c .shrink₁);
-      shrink₂ = over - min over (c .shrink₁);
-      stretch₁ = min under (c .stretch₁);
-      stretch₂ = under - min under (c .stretch₁);
+      shrink₁ = min excess (c .shrink₁);
+      shrink₂ = excess - min excess (c .shrink₁);
+      stretch₁ = min shortfall (c .stretch₁);
+      stretch₂ = shortfall - min shortfall (c .stretch₁);
     }
 
 -- "A line wider than the measure is shrunk to it, final or not. A non-final narrower line is stretched to it. .. The
@@ -71,9 +60,13 @@ amountsOf m x final l =
 
 -- "An amount E within a stage is shared by cumulative capacity (or weight) S over total C: gap i gets
 -- floor(E·S_i/C) − floor(E·S_(i−1)/C). A stage with C=0 is skipped": a quotient by 0 is 0.
--- Here s is S_(i−1) and t is S_i
+-- What the gaps up to one get together
+abbrev pub cumulativeShare : ℕ → ℕ → ℕ → ℕ
+cumulativeShare e c s = e * s / c
+
+-- and what the gap itself gets: s is S_(i−1) and t is S_i
 abbrev pub share : ℕ → ℕ → ℕ → ℕ → ℕ
-share e c s t = e * t / c - e * s / c
+share e c s t = cumulativeShare e c t - cumulativeShare e c s
 
 -- a gap g of a line whose gaps add up to c, after gaps that add up to s: its space once adjusted
 abbrev pub adjusted : Amounts → Gap → Gap → Gap → ℕ
@@ -118,8 +111,8 @@ lineOf m x final l =
     let c = totals u us in
     let e = amountsOf m x final l in
     record {
-      xs = placed e c nothing x u us;
-      end = ending e c nothing x u us;
+      xs = placed e c noGaps x u us;
+      end = ending e c noGaps x u us;
       kind = kindOf final e c;
       count = counts (whole l);
     }

@@ -4,7 +4,7 @@
 --   from .. to   a number lies between two others, both included: `within`
 --   run          a list that is not empty
 --   joined       runs, one after the other, as one list
---   cut          a list cut between each two neighbours that a test does not tie
+--   cut          a list cut between each two neighbours that a test does not link
 --   first of     the first row of a table whose test holds, or what stands under the table
 --   first failing    the place of the first element of a list that fails a test
 --   zeros        words past a count
@@ -37,22 +37,22 @@ abbrev pub whole : {A : Type 0} → Run A → List A
 whole l = l .first ∷ l .rest
 
 -- one run after another, as one run
-abbrev pub then : {A : Type 0} → Run A → Run A → Run A
-then l k = record { first = l .first; rest = l .rest ++ whole k }
+abbrev pub extended : {A : Type 0} → Run A → Run A → Run A
+extended l k = record { first = l .first; rest = l .rest ++ whole k }
 
 unfoldable pub joined : {A : Type 0} → List (Run A) → List A
 joined [] = []
 joined (l ∷ ls) = whole l ++ joined ls
 
--- put an element before runs: into the first run where it is tied to that run's first element, else as a run of its
+-- put an element before runs: into the first run where it is linked to that run's first element, else as a run of its
 -- own
-abbrev pub tie : {A : Type 0} → (A → A → Bool) → A → List (Run A) → List (Run A)
-tie t a [] = alone a ∷ []
-tie t a (l ∷ ls) = cond (t a (l .first)) (then (alone a) l ∷ ls) (alone a ∷ l ∷ ls)
+abbrev pub link : {A : Type 0} → (A → A → Bool) → A → List (Run A) → List (Run A)
+link t a [] = alone a ∷ []
+link t a (l ∷ ls) = cond (t a (l .first)) (extended (alone a) l ∷ ls) (alone a ∷ l ∷ ls)
 
 unfoldable pub cut : {A : Type 0} → (A → A → Bool) → List A → List (Run A)
 cut t [] = []
-cut t (a ∷ bs) = tie t a (cut t bs)
+cut t (a ∷ bs) = link t a (cut t bs)
 
 abbrev pub firstOf : {A : Type 0} → List (Bool × A) → A → A
 firstOf [] a = a

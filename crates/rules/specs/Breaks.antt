@@ -1,6 +1,6 @@
 -- Document 01, "Breaks and adjustment": breaks between units, the smallest width, answer 10, and the breaking.
 --
---   bound            two units between which a break, 分割, is forbidden
+--   forbiddenBetween  two units between which a break, 分割, is forbidden
 --   run              here: the units between neighbouring permitted breaks
 --   smallest width   a line's width with both shrink stages used in full
 --   measure          字詰め方向の行長, how wide a line may be; indent, 字下げ, where line 0 starts
@@ -11,13 +11,13 @@ use mathlib.Core.Bool.{Bool, true, false}
 use mathlib.Core.List.{List, [], _∷_}
 use mathlib.Core.Option.{Option, none, some}
 use lib.Dec.{leb}
-use Rattle.rules.specs.Basics.{Run, whole, then, cut}
+use Rattle.rules.specs.Basics.{Run, whole, extended, cut}
 use Rattle.rules.specs.Sides.{forbidden}
 use Rattle.rules.specs.Gaps.{Gap, gapOf, least}
 use Rattle.rules.specs.Groups.{TextUnit, side, advance, counts}
 
-abbrev pub bound : TextUnit → TextUnit → Bool
-bound u v = forbidden (side u) (side v)
+abbrev pub forbiddenBetween : TextUnit → TextUnit → Bool
+forbiddenBetween u v = forbidden (side u) (side v)
 
 abbrev pub gap : TextUnit → TextUnit → Gap
 gap u v = gapOf (side u) (side v)
@@ -32,7 +32,7 @@ width l = smallest (l .first) (l .rest)
 
 -- the runs between neighbouring permitted breaks
 unfoldable pub runs : List TextUnit → List (Run TextUnit)
-runs us = cut bound us
+runs us = cut forbiddenBetween us
 
 -- answer 10: "first record of the first run between neighbouring permitted breaks whose smallest width, for the first
 -- run with the indent, exceeds the measure". x is the indent for the first run and 0 later; i is the run's first
@@ -49,7 +49,7 @@ noBreaking m x us = wideRun m x 0 (runs us)
 unfoldable pub filled : ℕ → ℕ → Run TextUnit → List (Run TextUnit) → List (Run TextUnit)
 filled m x l [] = l ∷ []
 filled m x l (k ∷ ks) =
-    elim (leb (x + width (then l k)) m) [ true ↦ filled m x (then l k) ks | false ↦ l ∷ filled m 0 k ks ]
+    elim (leb (x + width (extended l k)) m) [ true ↦ filled m x (extended l k) ks | false ↦ l ∷ filled m 0 k ks ]
 
 -- "Each line takes the longest run of units ending at a permitted break or the paragraph's end whose smallest width,
 -- indent included, is at most the measure." That these are the longest is `lines-chosen` of proofs/Claims.antt

@@ -2,8 +2,8 @@
 -- Assumes nothing.
 use Rattle.lists.specs.Lists.{lists, inList}
 use Rattle.rules.specs.Basics.{joined, cut, firstFailing, zeros}
-use Rattle.rules.specs.Records.{codeOk, classes, classOk, rowOf, sizeOk, advanceKind, advanceOk, groupOk, recOk}
-use Rattle.rules.specs.Records.{badRecord, records, recordWords}
+use Rattle.rules.specs.Records.{codeOk, classes, classOk, classIndex, sizeOk, advanceKind, advanceOk, groupOk}
+use Rattle.rules.specs.Records.{recOk, badRecord, records, recordWords}
 use Rattle.rules.specs.Listed.{isListed, notListed}
 use Rattle.rules.specs.Space.{ruleOf, measured, spaceBy, spaceOf}
 use Rattle.rules.specs.Sides.{sideBy, forbidden}
@@ -15,20 +15,20 @@ use Rattle.rules.specs.Adjustment.{totals, unitAdvances, amounts, amount
 use Rattle.rules.specs.Adjustment.{linesOf, compose}
 use Rattle.rules.specs.Redone.{starts, holding, editLine, firstLine, resumed, report}
 use Rattle.rules.specs.Sheet.{placesOf, placeWords, lineWords, slotWords}
-use Rattle.rules.specs.Refusals.{judged, sound, splice, linesRedone, slotRows, editSlot, callRows, called}
+use Rattle.rules.specs.Refusals.{judged, sound, splice, linesRedone, slotRows, editSlot, entryRows, entryAnswer}
 use Rattle.rules.specs.Refusals.{onSlot, edit, readRows, readNumber, readStart, readLength, readWords}
 use Rattle.rules.specs.Refusals.{badSlot, freshSlots, setUpRows, setUpAnswer, setUp}
-use Rattle.rules.specs.Spacing.{entries, agrees, cellOf, tieOf, jointCell, spacingTable}
+use Rattle.rules.specs.Spacing.{entries, agrees, cellOf, breakOf, jointCell, spacingTable}
 use Rattle.rules.specs.Packed.{packed, unpacked, entryWords}
 
 unfoldable pub computed : Unit {0}
-unfolding lists inList joined cut firstFailing zeros codeOk classes classOk rowOf sizeOk advanceKind advanceOk
+unfolding lists inList joined cut firstFailing zeros codeOk classes classOk classIndex sizeOk advanceKind advanceOk
     groupOk recOk badRecord isListed notListed records recordWords badGroup groupFault units counts sideBy
     advances groupAdvance advance shift baseOffset offsets baseOffsets rubyOffset rubyPlace ruleOf measured
     spaceBy spaceOf forbidden flexibility gapBy weight gapOf smallest runs wideRun noBreaking filled breaking
     totals unitAdvances amounts amountsOf placed ending kindOf lineOf linesOf compose placesOf placeWords
     lineWords slotWords judged sound splice slotRows editSlot starts holding editLine firstLine resumed report
-    linesRedone callRows called onSlot edit readRows readNumber readStart readLength readWords badSlot
-    freshSlots setUpRows setUpAnswer setUp entries agrees cellOf tieOf jointCell spacingTable packed unpacked
+    linesRedone entryRows entryAnswer onSlot edit readRows readNumber readStart readLength readWords badSlot
+    freshSlots setUpRows setUpAnswer setUp entries agrees cellOf breakOf jointCell spacingTable packed unpacked
     entryWords
 computed = tt

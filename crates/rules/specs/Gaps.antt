@@ -6,7 +6,7 @@
 --   least            a gap with both shrink stages used in full
 --
 -- Assumes nothing.
-use Prim.Native.Nat.{ℕ, _-_}
+use Prim.Native.Nat.{ℕ, _+_, _-_}
 use mathlib.Core.Bool.{cond, not, _&&_}
 use lib.Dec.{eqb}
 use Rattle.rules.specs.Space.{Rule, rule-a, rule-b, rule-c, rule-d, rule-e, rule-f, rule-g, rule-h, rule-i}
@@ -16,32 +16,32 @@ use Rattle.rules.specs.Sides.{Side, forbidden}
 
 -- how a gap gives way: at shrink stage 1, at shrink stage 2 and stretch stage 1, or at neither
 pub data Flexibility : Type 0 where
-  early late rigid : Flexibility
+  punctuation japanese-western fixed : Flexibility
 
 -- "Shrink stage 1: non-zero gaps of f, of h, and of g with L=7 .. Shrink stage 2: gaps of i and j .. Stretch stage 1:
 -- gaps of i and j"
 unfoldable pub flexibility : Rule → ℕ → Flexibility
-flexibility rule-a L = rigid
-flexibility rule-b L = rigid
-flexibility rule-c L = rigid
-flexibility rule-d L = rigid
-flexibility rule-e L = rigid
-flexibility rule-f L = early
-flexibility rule-g L = cond (eqb L 7) early rigid
-flexibility rule-h L = early
-flexibility rule-i L = late
-flexibility rule-j L = late
-flexibility rule-k L = rigid
+flexibility rule-a L = fixed
+flexibility rule-b L = fixed
+flexibility rule-c L = fixed
+flexibility rule-d L = fixed
+flexibility rule-e L = fixed
+flexibility rule-f L = punctuation
+flexibility rule-g L = cond (eqb L 7) punctuation fixed
+flexibility rule-h L = punctuation
+flexibility rule-i L = japanese-western
+flexibility rule-j L = japanese-western
+flexibility rule-k L = fixed
 
 -- a space brought to another fraction "of the same size"; what is zero stays so
-abbrev pub instead : Fraction → Fraction → Fraction
-instead f no-part = no-part
-instead f eighth = f
-instead f quarter = f
-instead f half = f
+abbrev pub fractionOf : Fraction → Fraction → Fraction
+fractionOf f no-part = no-part
+fractionOf f eighth = f
+fractionOf f quarter = f
+fractionOf f half = f
 
-abbrev pub brought : Fraction → Space → Space
-brought f p = spaced (instead f (p .left)) (instead f (p .right))
+abbrev pub withFraction : Fraction → Space → Space
+withFraction f p = spaced (fractionOf f (p .left)) (fractionOf f (p .right))
 
 -- a gap: its space and its capacity at each of the four stages
 pub record Gap : Type 0 where
@@ -51,27 +51,42 @@ pub record Gap : Type 0 where
   pub stretch₁ : ℕ
   pub stretch₂ : ℕ
 
--- early: "down to 1/4 of the same size"; late: "down to 1/8" and "up to 1/2". "Other gaps never shrink."
+-- gaps added up, field by field
+abbrev pub plus : Gap → Gap → Gap
+plus g h =
+    record {
+      space = g .space + h .space;
+      shrink₁ = g .shrink₁ + h .shrink₁;
+      shrink₂ = g .shrink₂ + h .shrink₂;
+      stretch₁ = g .stretch₁ + h .stretch₁;
+      stretch₂ = g .stretch₂ + h .stretch₂;
+    }
+
+abbrev pub noGaps : Gap
+noGaps = record { space = 0; shrink₁ = 0; shrink₂ = 0; stretch₁ = 0; stretch₂ = 0 }
+
+-- of punctuation: "down to 1/4 of the same size"; between Japanese and Western: "down to 1/8" and "up to 1/2". "Other
+-- gaps never shrink."
 unfoldable pub gapBy : Flexibility → Space → ℕ → ℕ → ℕ → Gap
-gapBy early p left right w =
+gapBy punctuation p left right w =
     let s = measured p left right in
     record {
       space = s;
-      shrink₁ = s - measured (brought quarter p) left right;
+      shrink₁ = s - measured (withFraction quarter p) left right;
       shrink₂ = 0;
       stretch₁ = 0;
       stretch₂ = w;
     }
-gapBy late p left right w =
+gapBy japanese-western p left right w =
     let s = measured p left right in
     record {
       space = s;
       shrink₁ = 0;
-      shrink₂ = s - measured (brought eighth p) left right;
-      stretch₁ = measured (brought half p) left right - s;
+      shrink₂ = s - measured (withFraction eighth p) left right;
+      stretch₁ = measured (withFraction half p) left right - s;
       stretch₂ = w;
     }
-gapBy rigid p left right w =
+gapBy fixed p left right w =
     record { space = measured p left right; shrink₁ = 0; shrink₂ = 0; stretch₁ = 0; stretch₂ = w }
 
 -- "Stretch stage 2: every permitted-break gap with class 5 on neither side, weight 1 each, no limit."

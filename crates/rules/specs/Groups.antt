@@ -14,6 +14,7 @@ use mathlib.Core.Option.{Option, none, some}
 use lib.Dec.{leb, ltb, eqb}
 use lib.ListN.{length}
 use Rattle.rules.specs.Basics.{within, Run, whole, cut}
+use Rattle.rules.specs.Limits.{mostRuby, mostGrouped, largestBase}
 use Rattle.rules.specs.Records.{Rec, sizeOk}
 use Rattle.rules.specs.Sides.{Side, sideBy}
 
@@ -24,15 +25,18 @@ joins g h = not (eqb h 0) && eqb g h
 abbrev pub sameGroup : Rec → Rec → Bool
 sameGroup p r = joins (p .group) (r .group)
 
--- "at most 16 records, equal size, equal ruby count. Answer 9 names the first record that differs in size or ruby
--- count from the one before it in its group, or is the seventeenth." Records are counted from i; p, the n-th of its
--- group, stands before them
+-- r may stand after p, the n-th record of its group: "at most 16 records, equal size, equal ruby count."
+abbrev pub mayFollow : ℕ → Rec → Rec → Bool
+mayFollow n p r = eqb (p .size) (r .size) && eqb (p .ruby) (r .ruby) && ltb n mostGrouped
+
+-- "Answer 9 names the first record that differs in size or ruby count from the one before it in its group, or is the
+-- seventeenth." Records are counted from i; p, the n-th of its group, stands before them
 unfoldable pub badGroup : ℕ → ℕ → Rec → List Rec → Option ℕ
 badGroup i n p [] = none
 badGroup i n p (r ∷ rs) =
     elim (sameGroup p r) [
       | false ↦ badGroup (suc i) 1 r rs
-      | true ↦ elim (eqb (p .size) (r .size) && eqb (p .ruby) (r .ruby) && ltb n 16) [
+      | true ↦ elim (mayFollow n p r) [
         | true ↦ badGroup (suc i) (suc n) r rs
         | false ↦ some i
       ]
@@ -106,7 +110,7 @@ rubyOffset base n s k = k * (s / 2) + shift (base - rubyTotal n s) n k
 -- "Ruby place refuses with 8 if size, count (1 to 64) or k (below the count) is out of limits, or if the base advance
 -- is 0 or over 64,000, and then gives offset 0; otherwise its number is 0." A number and an offset
 abbrev pub rubyOk : ℕ → ℕ → ℕ → ℕ → Bool
-rubyOk base n s k = sizeOk s && within 1 64 n && ltb k n && within 1 64000 base
+rubyOk base n s k = sizeOk s && within 1 mostRuby n && ltb k n && within 1 largestBase base
 
 unfoldable pub rubyPlace : ℕ → ℕ → ℕ → ℕ → ℕ × ℕ
 rubyPlace base n s k = cond (rubyOk base n s k) (0, rubyOffset base n s k) (8, 0)

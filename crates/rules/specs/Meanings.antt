@@ -1,7 +1,7 @@
 -- What the definitions of Groups, Breaks and Adjustment mean, said without their algorithms. proofs/Claims.antt proves
 -- each of these of them.
 --
---   tied together        every two neighbours of a run pass a test
+--   linked together        every two neighbours of a run pass a test
 --   kept apart           no two elements that meet between neighbouring runs pass it
 --   boundary             a place between the runs
 --   choice               of permitted breaks: non-empty lines that join up to the paragraph and meet at such breaks
@@ -10,7 +10,7 @@
 --   ruby placed          ruby place refuses no ruby character of a unit
 --   listed               a record's code point stands in the list of its class (document 02, request 04)
 --   first lacking        the first element of a list that lacks a property
---   never opens          a character that is listed under barred classes alone (request 04)
+--   never opens          a character that is listed only under classes that start no line (request 04)
 --
 -- Assumes nothing.
 use mathlib.Core.Path.{_≡_}
@@ -21,13 +21,13 @@ use lib.Dec.{eqb}
 use lib.ListN.{length}
 use Rattle.lists.specs.Lists.{lists}
 use Rattle.lists.specs.Meanings.{Belongs}
-use Rattle.rules.specs.Basics.{Run, whole, then, joined}
+use Rattle.rules.specs.Basics.{Run, whole, extended, joined}
 use Rattle.rules.specs.Records.{Rec}
-use Rattle.rules.specs.Listed.{barred}
-use Rattle.rules.specs.Gaps.{Gap, least}
+use Rattle.rules.specs.Sides.{notAtLineStart}
+use Rattle.rules.specs.Gaps.{Gap, least, plus, noGaps}
 use Rattle.rules.specs.Groups.{TextUnit, counts, baseTotal, rubyOk, rubyOffset, rubyPlace}
-use Rattle.rules.specs.Breaks.{bound, width, gap}
-use Rattle.rules.specs.Adjustment.{plus, nothing, Amounts, share, adjusted}
+use Rattle.rules.specs.Breaks.{forbiddenBetween, width, gap}
+use Rattle.rules.specs.Adjustment.{Amounts, share, adjusted}
 
 -- every element of a list has a property
 pub data All {A : Type 0} (P : A → Type 0) : List A → Type 0 where
@@ -48,11 +48,11 @@ abbrev pub Listed : Rec → Type 0
 Listed r = Belongs (r .class) (r .code) lists
 
 abbrev pub NeverOpens : ℕ → Type 0
-NeverOpens k = (c : ℕ) → Belongs c k lists → barred c ≡ true
+NeverOpens code = (c : ℕ) → Belongs c code lists → notAtLineStart c ≡ true
 
--- of two neighbours, the second starts with the code point k
+-- of two neighbours, the second starts with a code point
 abbrev pub startsWith : ℕ → TextUnit → TextUnit → Bool
-startsWith k u v = eqb (v .first .code) k
+startsWith code u v = eqb (v .first .code) code
 
 abbrev pub lastOf : {A : Type 0} → A → List A → A
 lastOf a [] = a
@@ -62,12 +62,12 @@ abbrev pub lastIn : {A : Type 0} → Run A → A
 lastIn l = lastOf (l .first) (l .rest)
 
 -- every two neighbours pass the test t
-pub data Tied {A : Type 0} (t : A → A → Bool) : A → List A → Type 0 where
-  tied-one : {a : A} → Tied t a []
-  tied-more : {a b : A} {bs : List A} → t a b ≡ true → Tied t b bs → Tied t a (b ∷ bs)
+pub data Linked {A : Type 0} (t : A → A → Bool) : A → List A → Type 0 where
+  linked-one : {a : A} → Linked t a []
+  linked-more : {a b : A} {bs : List A} → t a b ≡ true → Linked t b bs → Linked t a (b ∷ bs)
 
-abbrev pub TiedRun : {A : Type 0} → (A → A → Bool) → Run A → Type 0
-TiedRun t l = Tied t (l .first) (l .rest)
+abbrev pub LinkedRun : {A : Type 0} → (A → A → Bool) → Run A → Type 0
+LinkedRun t l = Linked t (l .first) (l .rest)
 
 -- the last element of a run and the first of the next do not pass it
 pub data Apart {A : Type 0} (t : A → A → Bool) : List (Run A) → Type 0 where
@@ -76,10 +76,10 @@ pub data Apart {A : Type 0} (t : A → A → Bool) : List (Run A) → Type 0 whe
   apart-more : {l k : Run A} {ls : List (Run A)} → t (lastIn l) (k .first) ≡ false → Apart t (k ∷ ls) →
       Apart t (l ∷ k ∷ ls)
 
--- the maximal runs of tied neighbours of a list
+-- the maximal runs of linked neighbours of a list
 pub record Maximal {A : Type 0} (t : A → A → Bool) (ps : List A) (ls : List (Run A)) : Type 0 where
   pub joins-up : joined ls ≡ ps
-  pub tied : All (TiedRun t) ls
+  pub linked : All (LinkedRun t) ls
   pub apart : Apart t ls
 
 -- runs have a boundary between two stretches of what they join up to
@@ -99,15 +99,15 @@ pub data OneUnit : TextUnit → Type 0 where
 -- its offset
 pub record RubyPlaced (u : TextUnit) : Type 0 where
   pub some-ruby : (u .first .group ≡ 0 → ⊥) → 0 < u .first .ruby
-  pub within-limits : (k : ℕ) → k < u .first .ruby → rubyOk (baseTotal u) (u .first .ruby) (u .first .size) k ≡ true
-  pub offset : (k : ℕ) → k < u .first .ruby →
-      rubyPlace (baseTotal u) (u .first .ruby) (u .first .size) k
-      ≡ (0, rubyOffset (baseTotal u) (u .first .ruby) (u .first .size) k)
+  pub within-limits : (i : ℕ) → i < u .first .ruby → rubyOk (baseTotal u) (u .first .ruby) (u .first .size) i ≡ true
+  pub offset : (i : ℕ) → i < u .first .ruby →
+      rubyPlace (baseTotal u) (u .first .ruby) (u .first .size) i
+      ≡ (0, rubyOffset (baseTotal u) (u .first .ruby) (u .first .size) i)
 
 -- a choice of permitted breaks of the units us: lines, each boundary of which is a permitted break
 pub record Choice (us : List TextUnit) (ls : List (Run TextUnit)) : Type 0 where
   pub joins-up : joined ls ≡ us
-  pub permitted : Apart bound ls
+  pub permitted : Apart forbiddenBetween ls
 
 -- each line's smallest width is within the measure m, the first line's from x on
 pub data Fits (m : ℕ) : ℕ → List (Run TextUnit) → Type 0 where
@@ -117,7 +117,8 @@ pub data Fits (m : ℕ) : ℕ → List (Run TextUnit) → Type 0 where
 -- a stretch of units ends at a permitted break before the others, or at the paragraph's end
 pub data EndsWell : Run TextUnit → List TextUnit → Type 0 where
   at-end : {l : Run TextUnit} → EndsWell l []
-  at-break : {l : Run TextUnit} {v : TextUnit} {vs : List TextUnit} → bound (lastIn l) v ≡ false → EndsWell l (v ∷ vs)
+  at-break : {l : Run TextUnit} {v : TextUnit} {vs : List TextUnit} → forbiddenBetween (lastIn l) v ≡ false →
+      EndsWell l (v ∷ vs)
 
 -- of the lines, each is the longest: with any stretch of the units right after it, up to where a line may end, it does
 -- not fit
@@ -125,7 +126,7 @@ pub data Longest (m : ℕ) : ℕ → List (Run TextUnit) → Type 0 where
   longest-none : {x : ℕ} → Longest m x []
   longest-more : {x : ℕ} {l : Run TextUnit} {ls : List (Run TextUnit)} →
       ((t : Run TextUnit) (vs : List TextUnit) → whole t ++ vs ≡ joined ls → EndsWell t vs →
-      m < x + width (then l t)) →
+      m < x + width (extended l t)) →
       Longest m 0 ls → Longest m x (l ∷ ls)
 
 -- where a run after others stands: a first run at x, any other at 0
@@ -145,7 +146,7 @@ pub record FirstWide (m x : ℕ) (ls : List (Run TextUnit)) (i : ℕ) : Type 0 w
 
 -- a line of a unit u and units us has a gap g, after gaps that add up to s
 pub data GapAt : TextUnit → List TextUnit → Gap → Gap → Type 0 where
-  gap-here : {u v : TextUnit} {us : List TextUnit} → GapAt u (v ∷ us) nothing (gap u v)
+  gap-here : {u v : TextUnit} {us : List TextUnit} → GapAt u (v ∷ us) noGaps (gap u v)
   gap-later : {u v : TextUnit} {us : List TextUnit} {s g : Gap} → GapAt v us s g →
       GapAt u (v ∷ us) (plus (gap u v) s) g
 

@@ -12,31 +12,38 @@
 use mathlib.Core.Path.{_≡_}
 use Prim.Native.Nat.{ℕ, _+_, _*_, _/_, _%_, _≤_}
 use mathlib.Core.List.{List, [], _∷_, map}
+use Rattle.rules.specs.Limits.{largestSize}
 use Rattle.rules.specs.Gaps.{Gap, least}
 use Rattle.rules.specs.Spacing.{Entry, entries, named, gapSet}
 
--- 1,048,576 is 2^20 and 262,144 is 2^18, so the weight's field starts at 2^56
-unfoldable pub packed : Gap → ℕ
-packed g = least g + 1048576 * (g .shrink₁ + 262144 * (g .shrink₂ + 262144 * g .stretch₂))
+-- the field of the least holds numbers below 2^20, that of a shrink stage numbers below 2^18
+abbrev pub leastField : ℕ
+leastField = 1048576
 
--- the field of a weight
+abbrev pub shrinkField : ℕ
+shrinkField = 262144
+
+unfoldable pub packed : Gap → ℕ
+packed g = least g + leastField * (g .shrink₁ + shrinkField * (g .shrink₂ + shrinkField * g .stretch₂))
+
+-- a weight in its field
 abbrev pub weighing : ℕ → ℕ
-weighing w = 72057594037927936 * w
+weighing w = leastField * shrinkField * shrinkField * w
 
 -- the least that the gap of a word can be
 abbrev pub leastIn : ℕ → ℕ
-leastIn w = w % 1048576
+leastIn w = w % leastField
 
 unfoldable pub unpacked : ℕ → Gap
 unpacked w =
-    let shrink₁ = w / 1048576 % 262144 in
-    let shrink₂ = w / 1048576 / 262144 % 262144 in
+    let shrink₁ = w / leastField % shrinkField in
+    let shrink₂ = w / leastField / shrinkField % shrinkField in
     record {
       space = leastIn w + shrink₁ + shrink₂;
       shrink₁ = shrink₁;
       shrink₂ = shrink₂;
       stretch₁ = 2 * shrink₂;
-      stretch₂ = w / 1048576 / 262144 / 262144;
+      stretch₂ = w / leastField / shrinkField / shrinkField;
     }
 
 -- a gap gives no more than it has, and stretches at stage 1 by twice what it shrinks at stage 2
@@ -45,7 +52,7 @@ pub record Packs (g : Gap) : Type 0 where
   pub twice : g .stretch₁ ≡ 2 * g .shrink₂
 
 pub record AtMost (n : ℕ) (g : Gap) : Type 0 where
-  pub space : g .space ≤ 4000 * n
+  pub space : g .space ≤ largestSize * n
   pub shrink₁ : g .shrink₁ ≤ 1000 * n
   pub shrink₂ : g .shrink₂ ≤ 1000 * n
   pub stretch₂ : g .stretch₂ ≤ n

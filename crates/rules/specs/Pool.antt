@@ -7,13 +7,14 @@
 --   giving back  of one slot: all but clinic, measure and indent is zeroed
 --
 -- Assumes nothing.
-use Prim.Native.Nat.{ℕ, zero, suc, _+_, _*_}
+use Prim.Native.Nat.{ℕ, zero, suc, _+_, _*_, _-_}
 use mathlib.Core.Bool.{Bool, cond, not}
 use mathlib.Core.List.{List, [], _∷_}
 use mathlib.Core.Option.{Option, none, some}
 use lib.Dec.{eqb}
 use lib.ListN.{length, set}
 use Rattle.rules.specs.Basics.{firstOf, zeros}
+use Rattle.rules.specs.Layout.{slotLength, inUseAt}
 use Rattle.rules.specs.Sheet.{Setting, clinicOf, measureOf, indentOf, settingOf, slotCount, lengthOk, slotAt}
 use Rattle.rules.specs.Refusals.{Answer, says, Outcome, sound, onSlot}
 
@@ -52,7 +53,7 @@ takeAnswer n caller own = firstOf (takeRows n caller) (granted (lowestFree own))
 
 -- the place of slot k's in-use word in the sheet
 abbrev pub useAt : ℕ → ℕ
-useAt k = 2824 * k + 5
+useAt k = slotLength * k + inUseAt
 
 -- "which becomes 1": no other word changes
 unfoldable pub taking : List ℕ → ℕ → Outcome Answer
@@ -62,7 +63,7 @@ taking ws caller =
 
 -- "zeroes all but clinic, measure and indent"
 abbrev pub emptied : List ℕ → List ℕ
-emptied s = clinicOf s ∷ measureOf s ∷ indentOf s ∷ zeros 2821
+emptied s = clinicOf s ∷ measureOf s ∷ indentOf s ∷ zeros (slotLength - 3)
 
 -- the row 4 of a giving back of slot s: "refused as edit is, up to 4"
 unfoldable pub giveBackRows : List ℕ → List (Bool × Answer)

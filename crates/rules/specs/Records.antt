@@ -17,6 +17,8 @@ use mathlib.Core.Option.{Option}
 use lib.Dec.{leb, eqb}
 use lib.ListN.{getD}
 use Rattle.rules.specs.Basics.{isIn, within, firstFailing}
+use Rattle.rules.specs.Layout.{recordLength}
+use Rattle.rules.specs.Limits.{highestCode, sizeStep, leastSize, largestSize, highestGroup, mostRuby}
 
 pub record Rec : Type 0 where
   pub code : ℕ
@@ -28,7 +30,7 @@ pub record Rec : Type 0 where
 
 -- "Code point: at most 0x10FFFF and no surrogate."
 unfoldable pub codeOk : ℕ → Bool
-codeOk c = leb c 0x10FFFF && not (within 0xD800 0xDFFF c)
+codeOk k = leb k highestCode && not (within 0xD800 0xDFFF k)
 
 -- "The eighteen classes are 1 to 16, 19 and 27"
 unfoldable pub classes : List ℕ
@@ -39,17 +41,17 @@ unfolding classes
 classOk c = isIn c classes
 
 -- a class's row: its place in a list, or the list's length where it has none
-abbrev pub placeIn : ℕ → List ℕ → ℕ
-placeIn c [] = 0
-placeIn c (k ∷ ks) = cond (eqb c k) 0 (suc (placeIn c ks))
+abbrev pub indexIn : ℕ → List ℕ → ℕ
+indexIn c [] = 0
+indexIn c (d ∷ ds) = cond (eqb c d) 0 (suc (indexIn c ds))
 
-unfoldable pub rowOf : ℕ → ℕ
+unfoldable pub classIndex : ℕ → ℕ
 unfolding classes
-rowOf c = placeIn c classes
+classIndex c = indexIn c classes
 
 -- "Size: a multiple of 8, from 8 to 4,000."
 unfoldable pub sizeOk : ℕ → Bool
-sizeOk s = eqb (s % 8) 0 && within 8 4000 s
+sizeOk s = eqb (s % sizeStep) 0 && within leastSize largestSize s
 
 -- "Advance: half the size for classes 1, 2, 5, 6, 7; from 1 to the size for class 3; from 1 to twice the size for
 -- class 27; the size itself for all others."
@@ -73,8 +75,11 @@ unfoldable pub advanceOk : ℕ → ℕ → ℕ → Bool
 advanceOk c s a = advanceFits (advanceKind c) s a
 
 -- "Group 0 has ruby count 0. Group 1 to 65,535 has ruby count 1 to 64 and class 15, 16 or 19."
+abbrev pub groupClasses : List ℕ
+groupClasses = 15 ∷ 16 ∷ 19 ∷ []
+
 unfoldable pub groupOk : ℕ → ℕ → ℕ → Bool
-groupOk c g n = cond (eqb g 0) (eqb n 0) (leb g 65535 && within 1 64 n && isIn c (15 ∷ 16 ∷ 19 ∷ []))
+groupOk c g n = cond (eqb g 0) (eqb n 0) (leb g highestGroup && within 1 mostRuby n && isIn c groupClasses)
 
 -- a record keeps its own rules
 unfoldable pub recOk : Rec → Bool
@@ -87,14 +92,17 @@ unfoldable pub badRecord : ℕ → List Rec → Option ℕ
 badRecord i rs = firstFailing recOk i rs
 
 abbrev pub recOf : ℕ → ℕ → ℕ → ℕ → ℕ → ℕ → Rec
-recOf c k s a g n = record { code = c; class = k; size = s; advance = a; group = g; ruby = n }
+recOf k c s a g n = record { code = k; class = c; size = s; advance = a; group = g; ruby = n }
 
 -- record i of a list of words, six to a record
 abbrev pub recAt : List ℕ → ℕ → Rec
 recAt ws i =
-    recOf (getD ws (6 * i) 0) (getD ws (6 * i + 1) 0) (getD ws (6 * i + 2) 0) (getD ws (6 * i + 3) 0)
-    (getD ws (6 * i + 4) 0)
-    (getD ws (6 * i + 5) 0)
+    recOf (getD ws (recordLength * i) 0)
+    (getD ws (recordLength * i + 1) 0)
+    (getD ws (recordLength * i + 2) 0)
+    (getD ws (recordLength * i + 3) 0)
+    (getD ws (recordLength * i + 4) 0)
+    (getD ws (recordLength * i + 5) 0)
 
 -- n records of a list of words, from record i on
 unfoldable pub records : List ℕ → ℕ → ℕ → List Rec

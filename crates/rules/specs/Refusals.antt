@@ -17,6 +17,7 @@ use mathlib.Core.Option.{Option, none, some}
 use lib.Dec.{leb, ltb, eqb}
 use lib.ListN.{length, take, drop, getD}
 use Rattle.rules.specs.Basics.{firstOf}
+use Rattle.rules.specs.Layout.{mostRecords, recordLength, lineLength, slotLength, linesAt}
 use Rattle.rules.specs.Records.{Rec, records, badRecord}
 use Rattle.rules.specs.Listed.{notListed}
 use Rattle.rules.specs.Groups.{groupFault, units}
@@ -73,7 +74,7 @@ judged m x rs =
 -- 10"; "Answer 4 covers 12 too"; "an in-use word above 1 counts under 4"
 unfoldable pub sound : List ℕ → Bool
 sound s =
-    limitsOk (measureOf s) (indentOf s) && leb (countOf s) 256 && leb (inUseOf s) 1
+    limitsOk (measureOf s) (indentOf s) && leb (countOf s) mostRecords && leb (inUseOf s) 1
     && eqb (judged (measureOf s) (indentOf s) (recordsOf s) .number) 0
 
 -- "the deleted records go out at the place and the inserted ones come in there"
@@ -86,21 +87,25 @@ unfoldable pub linesRedone : ℕ → ℕ → List Rec → ℕ → ℕ → List R
 linesRedone m x rs place deleted new =
     report place deleted (length new) (compose m x (units rs)) (compose m x (units (splice rs place deleted new)))
 
+-- the records that words are, six to a record
+abbrev pub recordsIn : List ℕ → List Rec
+recordsIn words = records words 0 (length words / recordLength)
+
 -- a slot's records as an edit leaves them
 abbrev pub edited : List ℕ → ℕ → ℕ → List ℕ → List Rec
-edited s place deleted inserted = splice (recordsOf s) place deleted (records inserted 0 (length inserted / 6))
+edited s place deleted inserted = splice (recordsOf s) place deleted (recordsIn inserted)
 
 abbrev pub editRedone : List ℕ → ℕ → ℕ → List ℕ → ℕ
 editRedone s place deleted inserted =
-    linesRedone (measureOf s) (indentOf s) (recordsOf s) place deleted (records inserted 0 (length inserted / 6))
+    linesRedone (measureOf s) (indentOf s) (recordsOf s) place deleted (recordsIn inserted)
 
 -- the rows 4 to 7 of an edit of slot s
 unfoldable pub slotRows : List ℕ → ℕ → ℕ → List ℕ → List (Bool × Answer)
 slotRows s place deleted inserted =
     (not (sound s), says 4 0)
     ∷ (ltb (countOf s) place || ltb (countOf s) (place + deleted), says 5 (countOf s))
-    ∷ (not (eqb (length inserted % 6) 0), says 6 0)
-    ∷ (ltb 256 (countOf s - deleted + length inserted / 6), says 7 0)
+    ∷ (not (eqb (length inserted % recordLength) 0), says 6 0)
+    ∷ (ltb mostRecords (countOf s - deleted + length inserted / recordLength), says 7 0)
     ∷ []
 
 -- an edit of slot s by its own clinic: the answer, and the slot's words. "An accepted edit keeps clinic, measure and
@@ -115,8 +120,8 @@ editSlot s place deleted inserted =
 
 -- the rows 1 to 3 and 14, with which each call on a slot begins; 3 looks at no word of the slot but its clinic, and 14
 -- at no other but "in use": "on a slot not in use stands after 3 and before 4"
-unfoldable pub callRows : List ℕ → ℕ → ℕ → List (Bool × Answer)
-callRows ws caller k =
+unfoldable pub entryRows : List ℕ → ℕ → ℕ → List (Bool × Answer)
+entryRows ws caller k =
     (not (lengthOk (length ws)), says 1 0)
     ∷ (leb (slotCount ws) k, says 2 0)
     ∷ (eqb caller 0 || not (eqb caller (clinicOf (slotAt ws k))), says 3 0)
@@ -124,15 +129,15 @@ callRows ws caller k =
     ∷ []
 
 -- the answer of these rows: 0 where none applies
-unfoldable pub called : List ℕ → ℕ → ℕ → Answer
-called ws caller k = firstOf (callRows ws caller k) (says 0 0)
+unfoldable pub entryAnswer : List ℕ → ℕ → ℕ → Answer
+entryAnswer ws caller k = firstOf (entryRows ws caller k) (says 0 0)
 
 -- a call on slot k: f gives its answer and the slot's words afterwards, where none of these rows applies; where one
 -- does, `refused` gives the answer, and the sheet stays as it is. "It works on the part of the sheet that is the
 -- named slot."
 unfoldable pub onSlot : {A : Type 0} → (Answer → A) → List ℕ → ℕ → ℕ → (List ℕ → Outcome A) → Outcome A
 onSlot refused ws caller k f =
-    let a = called ws caller k in
+    let a = entryAnswer ws caller k in
     let o = f (slotAt ws k) in
     cond (eqb (a .number) 0) (o .0, withSlot ws k (o .1)) (refused a, ws)
 
@@ -142,20 +147,20 @@ edit ws caller k place deleted inserted = onSlot asEdit ws caller k (λ s. editS
 
 -- the row 4 of a read of slot s
 unfoldable pub readRows : List ℕ → List (Bool × Answer)
-readRows s = (ltb 256 (lineCountOf s) || ltb 1 (inUseOf s), says 4 0) ∷ []
+readRows s = (ltb mostRecords (lineCountOf s) || ltb 1 (inUseOf s), says 4 0) ∷ []
 
 -- read: "0, or 1, 2, 3, then 4 if the stored line count exceeds 256", with 14 after 3, and an in-use word above 1 under
 -- 4
 unfoldable pub readNumber : List ℕ → ℕ → ℕ → ℕ
-readNumber ws caller k = firstOf (callRows ws caller k ++ readRows (slotAt ws k)) (says 0 0) .number
+readNumber ws caller k = firstOf (entryRows ws caller k ++ readRows (slotAt ws k)) (says 0 0) .number
 
 -- where in the sheet the words that a read hands back start, and how many they are: "A refused read hands back an
 -- empty part."
 unfoldable pub readStart : List ℕ → ℕ → ℕ → ℕ
-readStart ws caller k = cond (eqb (readNumber ws caller k) 0) (2824 * k + 2056) 0
+readStart ws caller k = cond (eqb (readNumber ws caller k) 0) (slotLength * k + linesAt) 0
 
 unfoldable pub readLength : List ℕ → ℕ → ℕ → ℕ
-readLength ws caller k = cond (eqb (readNumber ws caller k) 0) (3 * lineCountOf (slotAt ws k)) 0
+readLength ws caller k = cond (eqb (readNumber ws caller k) 0) (lineLength * lineCountOf (slotAt ws k)) 0
 
 -- by start and end
 abbrev pub readPart : List ℕ → ℕ → ℕ → ℕ × ℕ
@@ -186,14 +191,14 @@ freshSlots k clinics measures indents (suc n) =
 -- the row 1 of a set-up of a sheet of n words
 unfoldable pub setUpRows : ℕ → List ℕ → List ℕ → List ℕ → List (Bool × Answer)
 setUpRows n clinics measures indents =
-    let p = n / 2824 in
-    let another : List ℕ → Bool = λ l. not (eqb (length l) p) in
+    let p = n / slotLength in
+    let another : List ℕ → Bool = λ numbers. not (eqb (length numbers) p) in
     (not (lengthOk n) || another clinics || another measures || another indents, says 1 0) ∷ []
 
 -- set-up: "gives 1 and 11 only"
 unfoldable pub setUpAnswer : ℕ → List ℕ → List ℕ → List ℕ → Answer
 setUpAnswer n clinics measures indents =
-    let p = n / 2824 in
+    let p = n / slotLength in
     firstOf (setUpRows n clinics measures indents) (orElse 11 (badSlot 0 clinics measures indents p) (says 0 p))
 
 unfoldable pub setUp : List ℕ → List ℕ → List ℕ → List ℕ → Outcome Answer

@@ -10,12 +10,15 @@
 --   fresh        a slot with a setting and nothing else: all other words are 0
 --
 -- Assumes nothing.
-use Prim.Native.Nat.{ℕ, suc, _+_, _*_, _/_, _%_}
+use Prim.Native.Nat.{ℕ, suc, _+_, _*_, _-_, _/_, _%_}
 use mathlib.Core.Bool.{Bool, _&&_}
 use mathlib.Core.List.{List, [], _∷_, _++_}
 use lib.Dec.{leb, ltb, eqb}
 use lib.ListN.{length, take, drop, getD}
 use Rattle.rules.specs.Basics.{within, zeros, padded}
+use Rattle.rules.specs.Layout.{mostSlots, recordsLength, placesLength, linesLength, slotLength}
+use Rattle.rules.specs.Layout.{clinicAt, measureAt, indentAt, recordCountAt, lineCountAt, inUseAt, recordsAt}
+use Rattle.rules.specs.Limits.{highestClinic, leastMeasure, largestMeasure}
 use Rattle.rules.specs.Records.{Rec, records, recordWords}
 use Rattle.rules.specs.Groups.{units}
 use Rattle.rules.specs.Adjustment.{Line, compose}
@@ -56,58 +59,58 @@ head t n lines = t .clinic ∷ t .measure ∷ t .indent ∷ n ∷ lines ∷ t .i
 -- the words of a slot of these records and lines: "Words past the counts are zero."
 abbrev pub slotOf : Setting → List Rec → List Line → List ℕ
 slotOf t rs ls =
-    head t (length rs) (length ls) ++ padded 1536 (recordWords rs) ++ padded 512 (placeWords 0 ls)
-    ++ padded 768 (lineWords 0 ls)
+    head t (length rs) (length ls) ++ padded recordsLength (recordWords rs) ++ padded placesLength (placeWords 0 ls)
+    ++ padded linesLength (lineWords 0 ls)
 
 -- the 2,824 words of a slot, from its setting and its records
 unfoldable pub slotWords : Setting → List Rec → List ℕ
 slotWords t rs = slotOf t rs (compose (t .measure) (t .indent) (units rs))
 
 abbrev pub fresh : Setting → List ℕ
-fresh t = t .clinic ∷ t .measure ∷ t .indent ∷ 0 ∷ 0 ∷ t .inUse ∷ zeros 2818
+fresh t = t .clinic ∷ t .measure ∷ t .indent ∷ 0 ∷ 0 ∷ t .inUse ∷ zeros (slotLength - 6)
 
 -- the head's words, the setting, and the records, of a slot s
 abbrev pub clinicOf : List ℕ → ℕ
-clinicOf s = getD s 0 0
+clinicOf s = getD s clinicAt 0
 
 abbrev pub measureOf : List ℕ → ℕ
-measureOf s = getD s 1 0
+measureOf s = getD s measureAt 0
 
 abbrev pub indentOf : List ℕ → ℕ
-indentOf s = getD s 2 0
+indentOf s = getD s indentAt 0
 
 abbrev pub inUseOf : List ℕ → ℕ
-inUseOf s = getD s 5 0
+inUseOf s = getD s inUseAt 0
 
 abbrev pub settingOf : List ℕ → Setting
 settingOf s = withUse (setting (clinicOf s) (measureOf s) (indentOf s)) (inUseOf s)
 
 abbrev pub countOf : List ℕ → ℕ
-countOf s = getD s 3 0
+countOf s = getD s recordCountAt 0
 
 abbrev pub lineCountOf : List ℕ → ℕ
-lineCountOf s = getD s 4 0
+lineCountOf s = getD s lineCountAt 0
 
 abbrev pub recordsOf : List ℕ → List Rec
-recordsOf s = records (drop 8 s) 0 (countOf s)
+recordsOf s = records (drop recordsAt s) 0 (countOf s)
 
 -- "Limits: clinic 0 to 65,535, where 0 is unassigned; measure 8 to 1,000,000; indent below measure."
 abbrev pub limitsOk : ℕ → ℕ → Bool
-limitsOk m x = within 8 1000000 m && ltb x m
+limitsOk m x = within leastMeasure largestMeasure m && ltb x m
 
 abbrev pub slotLimitsOk : Setting → Bool
-slotLimitsOk t = leb (t .clinic) 65535 && limitsOk (t .measure) (t .indent)
+slotLimitsOk t = leb (t .clinic) highestClinic && limitsOk (t .measure) (t .indent)
 
 -- P, and "2,824 P for a P from 1 to 64"
 abbrev pub slotCount : List ℕ → ℕ
-slotCount ws = length ws / 2824
+slotCount ws = length ws / slotLength
 
 abbrev pub lengthOk : ℕ → Bool
-lengthOk n = eqb (n % 2824) 0 && within 1 64 (n / 2824)
+lengthOk n = eqb (n % slotLength) 0 && within 1 mostSlots (n / slotLength)
 
 -- slot k of a sheet, and the sheet with other words there
 abbrev pub slotAt : List ℕ → ℕ → List ℕ
-slotAt ws k = take 2824 (drop (2824 * k) ws)
+slotAt ws k = take slotLength (drop (slotLength * k) ws)
 
 abbrev pub withSlot : List ℕ → ℕ → List ℕ → List ℕ
-withSlot ws k s = take (2824 * k) ws ++ (s ++ drop 2824 (drop (2824 * k) ws))
+withSlot ws k s = take (slotLength * k) ws ++ (s ++ drop slotLength (drop (slotLength * k) ws))

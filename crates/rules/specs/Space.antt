@@ -3,17 +3,23 @@
 --   L, R         the left and the right unit's class
 --   space        字間のアキ, between two units of a line, in fractions of the left and of the right size
 --   gap          the place between two units of a line, and the space set there
+--   Japanese     和文文字, of the classes that rules i and j name; with a dividing mark, 4, on the left
 --
 -- "No space is set before the first or after the last unit of a line": a line's gaps stand between its units.
 -- Assumes nothing.
 use Prim.Native.Nat.{ℕ, _+_, _/_}
 use mathlib.Core.Bool.{cond, _&&_}
-use mathlib.Core.List.{[], _∷_}
+use mathlib.Core.List.{List, [], _∷_}
 use lib.Dec.{eqb}
 use Rattle.rules.specs.Basics.{isIn}
 
 pub data Rule : Type 0 where
   rule-a rule-b rule-c rule-d rule-e rule-f rule-g rule-h rule-i rule-j rule-k : Rule
+
+-- the Japanese characters beside which a Western one is set off, rules i and j: iteration marks, prolonged sound marks,
+-- small kana, hiragana, katakana, ideographic and other
+abbrev pub japanese : List ℕ
+japanese = 9 ∷ 10 ∷ 11 ∷ 15 ∷ 16 ∷ 19 ∷ []
 
 -- "The first matching rule holds."
 unfoldable pub ruleOf : ℕ → ℕ → Rule
@@ -26,8 +32,8 @@ ruleOf L R =
     (cond (eqb L 2) rule-f
     (cond (isIn L (6 ∷ 7 ∷ [])) rule-g
     (cond (eqb R 1) rule-h
-    (cond (eqb L 27 && isIn R (9 ∷ 10 ∷ 11 ∷ 15 ∷ 16 ∷ 19 ∷ [])) rule-i
-    (cond (eqb R 27 && isIn L (4 ∷ 9 ∷ 10 ∷ 11 ∷ 15 ∷ 16 ∷ 19 ∷ [])) rule-j
+    (cond (eqb L 27 && isIn R japanese) rule-i
+    (cond (eqb R 27 && isIn L (4 ∷ japanese)) rule-j
     rule-k)))))))))
 
 -- fractions of a size, which is a multiple of 8

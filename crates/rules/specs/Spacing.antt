@@ -4,22 +4,22 @@
 --                after, 後ろ
 --   entry        what a cell names: the fractions of the left and of the right size that the space is, and how the gap
 --                gives way
---   tie          what two classes say of the break between them, as a number
---   cell         an entry's number, from 0; with 16 times the tie, the joint cell, which stands in the table
+--   break        what two classes say of the break between them, as a number
+--   cell         an entry's number, from 0; with 16 times the break's, the joint cell, which stands in the table
 --
 -- Rules a to k and `forbidden` stay the definitions: a cell has the first of the ten entries that agrees with the
 -- rules, and what `forbidden` says. That no cell is without an entry, and that with the code points it tells the
--- break, is computed over all 324: `cells-agree` of proofs/Cells.antt, `ties-agree` of proofs/Ties.antt. Assumes
--- nothing.
+-- break, is computed over all 324: `cells-agree` of proofs/SpacingCells.antt, `breaks-agree` of
+-- proofs/SpacingBreaks.antt. Assumes nothing.
 use Prim.Native.Nat.{ℕ, suc, _+_, _*_, _%_}
 use mathlib.Core.Bool.{Bool, cond, _&&_, _||_}
 use mathlib.Core.List.{List, [], _∷_, map}
 use lib.Dec.{eqb}
 use lib.ListN.{getD}
-use Rattle.rules.specs.Records.{classes, rowOf}
+use Rattle.rules.specs.Records.{classes, classIndex}
 use Rattle.rules.specs.Space.{Fraction, no-part, eighth, quarter, half, Space, spaced, ruleOf, spaceOf}
 use Rattle.rules.specs.Sides.{forbidden}
-use Rattle.rules.specs.Gaps.{Flexibility, early, late, rigid, flexibility, Gap, gapBy}
+use Rattle.rules.specs.Gaps.{Flexibility, punctuation, japanese-western, fixed, flexibility, Gap, gapBy}
 
 pub record Entry : Type 0 where
   pub space : Space
@@ -30,21 +30,21 @@ entry a b f = record { space = spaced a b; gives = f }
 
 -- nothing: 無印, ベタ組
 abbrev pub solid : Entry
-solid = entry no-part no-part rigid
+solid = entry no-part no-part fixed
 
 -- the entries, in the order of their numbers, with the rules that set them
 unfoldable pub entries : List Entry
 entries =
     solid  -- e and k; f, g and h where they set 0
-    ∷ entry quarter quarter rigid  -- a
-    ∷ entry half quarter rigid  -- b
-    ∷ entry no-part quarter rigid  -- c
-    ∷ entry quarter no-part rigid  -- d
-    ∷ entry half no-part early  -- f, and g after 7
-    ∷ entry half no-part rigid  -- g after 6
-    ∷ entry no-part half early  -- h
-    ∷ entry no-part quarter late  -- i
-    ∷ entry quarter no-part late  -- j
+    ∷ entry quarter quarter fixed  -- a
+    ∷ entry half quarter fixed  -- b
+    ∷ entry no-part quarter fixed  -- c
+    ∷ entry quarter no-part fixed  -- d
+    ∷ entry half no-part punctuation  -- f, and g after 7
+    ∷ entry half no-part fixed  -- g after 6
+    ∷ entry no-part half punctuation  -- h
+    ∷ entry no-part quarter japanese-western  -- i
+    ∷ entry quarter no-part japanese-western  -- j
     ∷ []
 
 -- the entry of a number
@@ -62,10 +62,10 @@ eighths eighth = 1
 eighths quarter = 2
 eighths half = 4
 
-abbrev pub stage : Flexibility → ℕ
-stage rigid = 0
-stage early = 1
-stage late = 2
+abbrev pub flexibilityNumber : Flexibility → ℕ
+flexibilityNumber fixed = 0
+flexibilityNumber punctuation = 1
+flexibilityNumber japanese-western = 2
 
 abbrev pub sameSpace : Space → Space → Bool
 sameSpace p q = eqb (eighths (p .left)) (eighths (q .left)) && eqb (eighths (p .right)) (eighths (q .right))
@@ -75,7 +75,8 @@ sameSpace p q = eqb (eighths (p .left)) (eighths (q .left)) && eqb (eighths (p .
 unfoldable pub agrees : Entry → ℕ → ℕ → Bool
 agrees e L R =
     sameSpace (e .space) (spaceOf L R)
-    && (sameSpace (solid .space) (spaceOf L R) || eqb (stage (e .gives)) (stage (flexibility (ruleOf L R) L)))
+    && (sameSpace (solid .space) (spaceOf L R)
+    || eqb (flexibilityNumber (e .gives)) (flexibilityNumber (flexibility (ruleOf L R) L)))
 
 -- the place of the first entry that agrees, or the list's length
 abbrev pub firstAgreeing : List Entry → ℕ → ℕ → ℕ
@@ -93,11 +94,11 @@ forbiddenAt L R c d =
 
 -- 1: forbidden whatever the code points, so even between two that differ and are no digits. 2: they decide, so it is
 -- forbidden between two equal digits only. 0: permitted even there
-unfoldable pub tieOf : ℕ → ℕ → ℕ
-tieOf L R = cond (forbiddenAt L R 0 1) 1 (cond (forbiddenAt L R 0x30 0x30) 2 0)
+unfoldable pub breakOf : ℕ → ℕ → ℕ
+breakOf L R = cond (forbiddenAt L R 0 1) 1 (cond (forbiddenAt L R 0x30 0x30) 2 0)
 
 unfoldable pub jointCell : ℕ → ℕ → ℕ
-jointCell L R = cellOf L R + 16 * tieOf L R
+jointCell L R = cellOf L R + 16 * breakOf L R
 
 unfoldable pub spacingTable : List (List ℕ)
 unfolding classes
@@ -105,7 +106,7 @@ spacingTable = map (λ L. map (λ R. jointCell L R) classes) classes
 
 -- the joint cell that a table has for two classes, and the number of the entry in it
 abbrev pub jointIn : List (List ℕ) → ℕ → ℕ → ℕ
-jointIn t L R = getD (getD t (rowOf L) []) (rowOf R) 0
+jointIn t L R = getD (getD t (classIndex L) []) (classIndex R) 0
 
 abbrev pub cellIn : List (List ℕ) → ℕ → ℕ → ℕ
 cellIn t L R = jointIn t L R % 16

@@ -12,6 +12,7 @@ use Prim.Native.Nat.{ℕ, suc, _+_, _*_, _-_, _≤_, _<_}
 use mathlib.Core.Bool.{Bool, true, false}
 use mathlib.Core.List.{List, [], _∷_}
 use lib.ListN.{length, take, drop}
+use Rattle.rules.specs.Layout.{placeLength, lineLength, placesAt, linesAt}
 use Rattle.rules.specs.Groups.{units}
 use Rattle.rules.specs.Adjustment.{Line, compose}
 use Rattle.rules.specs.Sheet.{placeWords, lineWords, measureOf, indentOf, countOf, lineCountOf, recordsOf}
@@ -71,7 +72,10 @@ usedBy ls = record { places = placeWords 0 ls; lines = lineWords 0 ls }
 
 abbrev pub usedOf : List ℕ → Used
 usedOf s =
-    record { places = take (2 * countOf s) (drop 1544 s); lines = take (3 * lineCountOf s) (drop 2056 s) }
+    record {
+      places = take (placeLength * countOf s) (drop placesAt s);
+      lines = take (lineLength * lineCountOf s) (drop linesAt s);
+    }
 
 -- the lines that the rules give a slot's records
 abbrev pub ruledLines : List ℕ → List Line
@@ -96,11 +100,12 @@ movedPlaces a d (x ∷ line ∷ ws) = x ∷ (line + a - d) ∷ movedPlaces a d w
 -- v, the words of the new lines, beside w, those of the old ones: line words before line f and place words before its
 -- first record are the old ones, those from line r on are the old ones from line `again` on, moved
 pub record WordsStable (f r again deleted inserted : ℕ) (old new : List Line) (w v : Used) : Type 0 where
-  pub lines-before : take (3 * f) (v .lines) ≡ take (3 * f) (w .lines)
-  pub places-before : take (2 * start f old) (v .places) ≡ take (2 * start f old) (w .places)
-  pub lines-after : drop (3 * r) (v .lines) ≡ movedLines inserted deleted (drop (3 * again) (w .lines))
-  pub places-after : drop (2 * start r new) (v .places) ≡
-      movedPlaces r again (drop (2 * start again old) (w .places))
+  pub lines-before : take (lineLength * f) (v .lines) ≡ take (lineLength * f) (w .lines)
+  pub places-before : take (placeLength * start f old) (v .places) ≡ take (placeLength * start f old) (w .places)
+  pub lines-after : drop (lineLength * r) (v .lines) ≡
+      movedLines inserted deleted (drop (lineLength * again) (w .lines))
+  pub places-after : drop (placeLength * start r new) (v .places) ≡
+      movedPlaces r again (drop (placeLength * start again old) (w .places))
 
 -- The promise --------------------------------------------------------------------------------------------------------
 

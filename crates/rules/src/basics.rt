@@ -11,8 +11,15 @@ pub(crate) fn between(lo: u32, hi: u32, x: u32) -> bool
     (lo <= x) & (x <= hi)
 }
 
+// A byte of a table as a number.
+pub(crate) fn as_number(x: u8) -> u32
+    ensures { λ r. ⌜ r ≡ x ⌝ }
+{
+    x as u32
+}
+
 // What `a` is over `b`, or 0.
-pub fn over(a: u32, b: u32) -> u32
+pub fn excess(a: u32, b: u32) -> u32
     ensures { λ d. ⌜ d ≡ a - b ⌝ }
 {
     if b < a { a - b } else { 0 }

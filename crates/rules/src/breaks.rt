@@ -4,9 +4,12 @@ ghost use mathlib.Core.Bool.{true};
 ghost use Rattle.rules.specs.Records.{classOk};
 ghost use Rattle.rules.specs.Sides.{arabicDigit, forbidden};
 ghost use Rattle.rules.specs.Spacing.{jointCell};
-ghost use Rattle.rules.specs.Values.{sideOf};
+ghost use Rattle.rules.specs.Structs.{sideOf};
 use crate::basics::between;
 use crate::groups::Side;
+use crate::spacing::FIRST_BY_CODE;
+use crate::spacing::FIRST_FORBIDDEN;
+use lists::classes::INSEPARABLE;
 
 // 0 to 9.
 fn arabic_digit(code: u32) -> bool
@@ -16,19 +19,19 @@ fn arabic_digit(code: u32) -> bool
 }
 
 // A line may not be broken between the two. `cell` is the spacing table's for their classes.
-pub(crate) fn tied_by(cell: u32, l: Side, r: Side) -> bool
+pub(crate) fn break_forbidden(cell: u32, l: Side, r: Side) -> bool
     requires { ⌜ (classOk (l .class) ≡ true) × (classOk (r .class) ≡ true) ⌝ }
     requires { ⌜ cell ≡ jointCell (l .class) (r .class) ⌝ }
     ensures { λ b. ⌜ b ≡ forbidden (sideOf l) (sideOf r) ⌝ }
 {
-    if cell < 16 {
+    if cell < FIRST_FORBIDDEN {
         return false;
     }
-    if cell < 32 {
+    if cell < FIRST_BY_CODE {
         return true;
     }
-    // the code points decide: two dashes of class 8, or a digit before class 13, as 5% and 25℃ stay together
-    if l.class == 8 {
+    // the code points decide: two dashes, or a digit before a postfixed abbreviation, as 5% and 25℃ stay together
+    if l.class == INSEPARABLE {
         return l.code == r.code;
     }
     arabic_digit(l.code)

@@ -2,17 +2,20 @@
 ghost use mathlib.Core.Path.{_≡_};
 ghost use mathlib.Core.Bool.{cond};
 ghost use Prim.Native.Nat.{_+_, _*_, _/_, _<_, _≤_};
-ghost use Rattle.rules.specs.Records.{rowOf};
+ghost use Rattle.rules.specs.Limits.{largestSize};
+ghost use Rattle.rules.specs.Records.{classIndex};
 ghost use Rattle.rules.specs.Sides.{forbidden};
-ghost use Rattle.rules.specs.Gaps.{gapOf};
-ghost use Rattle.rules.specs.Adjustment.{plus};
+ghost use Rattle.rules.specs.Gaps.{gapOf, plus};
 ghost use Rattle.rules.specs.Spacing.{spacingTable};
 ghost use Rattle.rules.specs.Packed.{leastIn, unpacked, AtMost, entryWords, Taken};
-ghost use Rattle.rules.specs.Values.{sideOf, gapFrom, SideOk};
-use crate::breaks::tied_by;
+ghost use Rattle.rules.specs.Bounds.{SideOk};
+ghost use Rattle.rules.specs.Structs.{sideOf, gapFrom};
+use crate::basics::as_number;
+use crate::breaks::break_forbidden;
 use crate::groups::Side;
-use crate::records::wide;
 use crate::spacing::Entry;
+use crate::spacing::FIRST_FORBIDDEN;
+use lists::classes::MIDDLE_DOT;
 
 // The space between two units, and its capacity at each stage of adjustment.
 pub struct Gap {
@@ -26,7 +29,7 @@ pub struct Gap {
 // What stands between two units: the gap in one word, and 1 where the break is forbidden, else 0.
 pub struct Joint {
     pub gap: u64,
-    pub tied: u32,
+    pub forbidden: u32,
 }
 
 // A gap in one word: its least, then what shrink stage 1 and shrink stage 2 take, then its weight at stretch stage 2.
@@ -45,9 +48,9 @@ const QUARTER: u64 = 2;
 
 const HALF: u64 = 4;
 
-const EARLY: u64 = 2 + 2 * SHRINK1;
+const PUNCTUATION: u64 = 2 + 2 * SHRINK1;
 
-const LATE: u64 = 1 + SHRINK2;
+const JAPANESE_WESTERN: u64 = 1 + SHRINK2;
 
 // For each entry of the spacing table what it takes of a left size of 8, and of a right one.
 const WORDS: [[u64; 2]; 10] = [
@@ -56,11 +59,11 @@ const WORDS: [[u64; 2]; 10] = [
     [HALF, QUARTER],
     [0, QUARTER],
     [QUARTER, 0],
-    [EARLY, 0],
+    [PUNCTUATION, 0],
     [HALF, 0],
-    [0, EARLY],
-    [0, LATE],
-    [LATE, 0],
+    [0, PUNCTUATION],
+    [0, JAPANESE_WESTERN],
+    [JAPANESE_WESTERN, 0],
 ];
 
 // The words, for a caller to lay down once and lend to each gap.
@@ -72,7 +75,7 @@ pub fn entry_words() -> [[u64; 2]; 10]
 
 // A word for each eighth of a size.
 fn times(size: u32, word: u64) -> u64
-    requires { ⌜ (size ≤ 4000) × (word ≤ 549755813888) ⌝ }
+    requires { ⌜ (size ≤ largestSize) × (word ≤ 549755813888) ⌝ }
     ensures { λ w. ⌜ (w ≡ size / 8 * word) × (w ≤ 274877906944000) ⌝ }
 {
     (size / 8) as u64 * word
@@ -80,7 +83,7 @@ fn times(size: u32, word: u64) -> u64
 
 // What an entry takes of two sizes.
 fn taken(entry: usize, left: u32, right: u32, words: &[[u64; 2]; 10]) -> u64
-    requires { ⌜ (entry < 10) × (left ≤ 4000) × (right ≤ 4000) × (now words ≡ entryWords) ⌝ }
+    requires { ⌜ (entry < 10) × (left ≤ largestSize) × (right ≤ largestSize) × (now words ≡ entryWords) ⌝ }
     ensures { λ w. ⌜ Taken entry left right w ⌝ }
 {
     // nothing, as at most forbidden breaks: no product to make
@@ -90,42 +93,48 @@ fn taken(entry: usize, left: u32, right: u32, words: &[[u64; 2]; 10]) -> u64
     times(left, words[entry][0]) + times(right, words[entry][1])
 }
 
-// The joint between two units. The caller has the row of the left class and the column of the right one, and lends the
+// The joint between two units. The caller has the indexes of the left and of the right class, and lends the
 // tables.
 pub fn joint_between(
     l: Side,
     r: Side,
-    row: usize,
-    column: usize,
+    left: usize,
+    right: usize,
     spacing: &[[Entry; 18]; 18],
     words: &[[u64; 2]; 10],
 ) -> Joint
     requires { ⌜ SideOk (sideOf l) × SideOk (sideOf r) ⌝ }
-    requires { ⌜ (row ≡ rowOf (l .class)) × (column ≡ rowOf (r .class)) ⌝ }
+    requires { ⌜ (left ≡ classIndex (l .class)) × (right ≡ classIndex (r .class)) ⌝ }
     requires { ⌜ (now spacing ≡ spacingTable) × (now words ≡ entryWords) ⌝ }
     ensures { λ j. ⌜ (unpacked (j .gap) ≡ gapOf (sideOf l) (sideOf r))
-        × (j .tied ≡ cond (forbidden (sideOf l) (sideOf r)) 1 0) ⌝ }
+        × (j .forbidden ≡ cond (forbidden (sideOf l) (sideOf r)) 1 0) ⌝ }
 {
-    let cell = wide(spacing[row][column]);
-    // most gaps: nothing, the break permitted, and class 5 on neither side
+    let cell = as_number(spacing[left][right]);
+    // most gaps: nothing, the break permitted, and a middle dot on neither side
     if cell == 0 {
         return Joint {
             gap: WEIGHT,
-            tied: 0,
+            forbidden: 0,
         };
     }
-    let tied = tied_by(cell, l, r);
-    let gap = taken((cell % 16) as usize, l.size, r.size, words);
-    if tied {
-        return Joint { gap: gap, tied: 1 };
+    let forbidden = break_forbidden(cell, l, r);
+    let gap = taken((cell % FIRST_FORBIDDEN) as usize, l.size, r.size, words);
+    if forbidden {
+        return Joint {
+            gap: gap,
+            forbidden: 1,
+        };
     }
-    // no weight beside class 5; before it every break is forbidden
-    if l.class == 5 {
-        return Joint { gap: gap, tied: 0 };
+    // no weight beside a middle dot; before it every break is forbidden
+    if l.class == MIDDLE_DOT {
+        return Joint {
+            gap: gap,
+            forbidden: 0,
+        };
     }
     Joint {
         gap: gap + WEIGHT,
-        tied: 0,
+        forbidden: 0,
     }
 }
 

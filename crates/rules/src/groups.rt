@@ -1,10 +1,13 @@
 // "Records and groups": the rows of a group.
 ghost use mathlib.Core.Path.{_≡_};
 ghost use Prim.Native.Nat.{_≤_};
+ghost use Rattle.rules.specs.Limits.{largestSize, mostRuby};
 ghost use Rattle.rules.specs.Groups.{rubyTotal, groupAdvance, shift as shiftOf, baseOffset, rubyOk, rubyPlace};
-ghost use Rattle.rules.specs.Values.{ShiftBounds, OffsetBounds};
+ghost use Rattle.rules.specs.Bounds.{ShiftBounds, OffsetBounds};
 use crate::basics::between;
-use crate::basics::over;
+use crate::basics::excess;
+use crate::limits::LARGEST_BASE;
+use crate::limits::MOST_RUBY;
 use crate::records::size_ok;
 
 // What of a unit its neighbours see.
@@ -23,7 +26,7 @@ pub struct RubyPlace {
 
 // The width of a ruby row: its characters are half the size.
 fn ruby_total(ruby: u32, size: u32) -> u32
-    requires { ⌜ (ruby ≤ 64) × (size ≤ 4000) ⌝ }
+    requires { ⌜ (ruby ≤ mostRuby) × (size ≤ largestSize) ⌝ }
     ensures { λ r. ⌜ r ≡ rubyTotal ruby size ⌝ }
 {
     ruby * (size / 2)
@@ -31,7 +34,7 @@ fn ruby_total(ruby: u32, size: u32) -> u32
 
 // The larger of base total and ruby total.
 pub fn group_advance(base: u32, ruby: u32, size: u32) -> u32
-    requires { ⌜ (ruby ≤ 64) × (size ≤ 4000) ⌝ }
+    requires { ⌜ (ruby ≤ mostRuby) × (size ≤ largestSize) ⌝ }
     ensures { λ r. ⌜ r ≡ groupAdvance base ruby size ⌝ }
 {
     let total = ruby_total(ruby, size);
@@ -58,14 +61,14 @@ pub fn base_offset(base: u32, ruby: u32, size: u32, n: u32, k: u32, solid: u32) 
     requires { ⌜ OffsetBounds ruby size n k solid ⌝ }
     ensures { λ r. ⌜ r ≡ baseOffset base ruby size n k solid ⌝ }
 {
-    solid + shift(over(ruby_total(ruby, size), base), n, k)
+    solid + shift(excess(ruby_total(ruby, size), base), n, k)
 }
 
 // Whether ruby place's numbers are within their limits.
 fn ruby_ok(base: u32, count: u32, size: u32, k: u32) -> bool
     ensures { λ b. ⌜ b ≡ rubyOk base count size k ⌝ }
 {
-    size_ok(size) & between(1, 64, count) & (k < count) & between(1, 64000, base)
+    size_ok(size) & between(1, MOST_RUBY, count) & (k < count) & between(1, LARGEST_BASE, base)
 }
 
 // The offset of ruby character `k` from the start of its group.
@@ -73,7 +76,7 @@ pub fn ruby_place(base_advance: u32, ruby_count: u32, size: u32, k: u32) -> Ruby
     ensures { λ r. ⌜ (r .number, r .offset) ≡ rubyPlace «base_advance» «ruby_count» size k ⌝ }
 {
     if ruby_ok(base_advance, ruby_count, size, k) {
-        let d = over(base_advance, ruby_total(ruby_count, size));
+        let d = excess(base_advance, ruby_total(ruby_count, size));
         RubyPlace {
             number: 0,
             offset: k * (size / 2) + shift(d, ruby_count, k),

@@ -1,13 +1,21 @@
 // The leaf functions of the rules, a module to a section of document 01.
+mod answer;
 mod basics;
 mod breaks;
+mod classes;
 mod gaps;
 mod groups;
+pub mod layout;
+pub mod limits;
 mod records;
 mod sheet;
 mod spacing;
 
-pub use basics::over;
+pub use answer::Answer;
+pub use answer::says;
+pub use basics::excess;
+pub use classes::class_index;
+pub use classes::class_table;
 pub use gaps::Gap;
 pub use gaps::Joint;
 pub use gaps::added;
@@ -21,11 +29,9 @@ pub use groups::base_offset;
 pub use groups::group_advance;
 pub use groups::ruby_place;
 pub use records::Record;
-pub use records::class_table;
 pub use records::plain_ok;
 pub use records::record_ok;
 pub use sheet::limits_ok;
 pub use sheet::slot_limits_ok;
 pub use spacing::Entry;
-pub use spacing::row_of;
 pub use spacing::spacing_table;

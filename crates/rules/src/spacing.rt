@@ -1,20 +1,20 @@
 // "Space between units" as a table, by document 02's request 02; with it where a break is forbidden.
 ghost use mathlib.Core.Path.{_≡_};
-ghost use mathlib.Core.Bool.{true};
-ghost use Prim.Native.Nat.{_<_};
-ghost use Rattle.rules.specs.Records.{rowOf, classOk};
 ghost use Rattle.rules.specs.Spacing.{spacingTable};
-ghost use Rattle.rules.specs.Values.{classTable};
-use crate::records::wide;
 
 // A cell: the number of what stands between two classes, from 0 to 9, and what they say of the break there. So one
 // look tells both.
 pub type Entry = u8;
 
 // Added where the break is forbidden, and where the code points decide; nothing is added where it is permitted.
-const TIED: Entry = 16;
+const FORBIDDEN: Entry = 16;
 
-const ASKED: Entry = 32;
+const BY_CODE: Entry = 32;
+
+// So below the first of these the break is permitted, and below the second the code points are not asked.
+pub(crate) const FIRST_FORBIDDEN: u32 = FORBIDDEN as u32;
+
+pub(crate) const FIRST_BY_CODE: u32 = BY_CODE as u32;
 
 // The entries, by the letter of the rule that sets each and in source document 004's words: a half or a quarter
 // of the size before the gap, be, or after it, af. Where one stands at forbidden breaks too, T is added to its name.
@@ -22,43 +22,43 @@ const ASKED: Entry = 32;
 // points are asked.
 const O: Entry = 0;
 
-const T: Entry = O + TIED;
+const T: Entry = O + FORBIDDEN;
 
-const Q: Entry = O + ASKED;
+const Q: Entry = O + BY_CODE;
 
 // 1/4 be + 1/4 af. This and the next two stand before class 5, where every break is forbidden.
-const A: Entry = 1 + TIED;
+const A: Entry = 1 + FORBIDDEN;
 
 // 1/2 be + 1/4 af.
-const B: Entry = 2 + TIED;
+const B: Entry = 2 + FORBIDDEN;
 
 // 1/4 af.
-const C: Entry = 3 + TIED;
+const C: Entry = 3 + FORBIDDEN;
 
 // 1/4 be.
 const D: Entry = 4;
 
-const DT: Entry = D + TIED;
+const DT: Entry = D + FORBIDDEN;
 
 // 1/2 be that shrinks at stage 1: rule f, and rule g after class 7.
 const F: Entry = 5;
 
-const FT: Entry = F + TIED;
+const FT: Entry = F + FORBIDDEN;
 
 // 1/2 be: rule g after class 6.
 const G: Entry = 6;
 
-const GT: Entry = G + TIED;
+const GT: Entry = G + FORBIDDEN;
 
 // 1/2 af that shrinks at stage 1.
 const H: Entry = 7;
 
-const HT: Entry = H + TIED;
+const HT: Entry = H + FORBIDDEN;
 
 // 1/4 af that shrinks at stage 2 and stretches at stage 1.
 const I: Entry = 8;
 
-const IT: Entry = I + TIED;
+const IT: Entry = I + FORBIDDEN;
 
 // 1/4 be that shrinks at stage 2 and stretches at stage 1.
 const J: Entry = 9;
@@ -91,12 +91,4 @@ pub fn spacing_table() -> [[Entry; 18]; 18]
     ensures { λ t. ⌜ t ≡ spacingTable ⌝ }
 {
     SPACING
-}
-
-// A class's row, which is its column too, by the class table.
-pub fn row_of(class: u32, classes: &[u8; 28]) -> usize
-    requires { ⌜ (classOk class ≡ true) × (now classes ≡ classTable) ⌝ }
-    ensures { λ i. ⌜ (i ≡ rowOf class) × (i < 18) ⌝ }
-{
-    (wide(classes[class as usize]) / 4) as usize
 }

@@ -1,8 +1,9 @@
 -- What is proved of the calls on a sheet, in reading order: each claim is proved by one citation. All but the last
--- speak of runs of the calls themselves, defined over their contracts in proofs/Runs.antt; what demand 3 says of a
--- sequence of runs is proofs/Booked.antt. The other words of the claims are defined in specs/: Book, History, Meanings
--- and FreeSlots; the rules in crate `rules`, whose own proofs/Claims.antt has what is proved of them alone; what a text
--- spells and where it has its fault in crate `leaflet`, likewise. Assumes nothing.
+-- speak of runs of the calls themselves, defined over their contracts in proofs/Demand3.antt, which has all that demand
+-- 3 says of a sequence of runs; proofs/Runs.antt names what single runs were told and left. The other words of the
+-- claims are defined in specs/: Book, OnSheet, Meanings and FreeSlots; the rules in crate `rules`, whose own
+-- proofs/Claims.antt has what is proved of them alone; what a text spells and where it has its fault likewise in crate
+-- `leaflet`. Assumes nothing.
 use mathlib.Core.Path.{_≡_, sym, ap}
 use Prim.Native.Nat.{ℕ, _*_, _/_, _<_}
 use mathlib.Core.Bool.{true, false}
@@ -11,7 +12,9 @@ use mathlib.Core.Logic.{_↔_}
 use mathlib.Core.Option.{none}
 use lib.ListN.{length, getD, take, drop}
 use denote.Ref.{now}
-use Rattle.rules.specs.Basics.{Run as RunOf}
+-- words of the rules and of leaflets
+use Rattle.rules.specs.Layout.{lineLength, linesAt}
+use Rattle.rules.specs.Basics.{Run}
 use Rattle.rules.specs.Records.{Rec}
 use Rattle.rules.specs.Groups.{TextUnit, units}
 use Rattle.rules.specs.Breaks.{runs, breaking}
@@ -22,26 +25,39 @@ use Rattle.rules.specs.Refusals.{Outcome, edited}
 use Rattle.rules.specs.Pool.{emptied}
 use Rattle.rules.specs.Stable.{Used, usedBy, usedOf, ruledLines, AsRuled, StableEdit}
 use Rattle.rules.specs.Meanings.{All, Choice, Fits, Longest, FirstWide, RubyPlaced, FirstLacking, Listed}
-use Rattle.rules.proofs.Claims.{lines-chosen}
 use Rattle.leaflet.specs.Contents.{Piece, Spells, Accepted, reading}
 use Rattle.leaflet.specs.Faults.{Fault}
 use Rattle.leaflet.specs.Imported.{importedRecords}
-use Rattle.sheet.specs.Book.{SlotCall, reads, Call, call-on, Reply, read-reply, numberOf, faultOf, step}
-use Rattle.sheet.specs.Book.{BookSlot, bookStep}
+-- calls, the book and runs
+use Rattle.sheet.specs.Book.{SlotCall, reads, Call, call-on, Reply, read-reply, numberOf, faultOf, BookSlot}
+use Rattle.sheet.specs.Book.{bookStep}
+use Rattle.sheet.specs.OnSheet.{step}
 use Rattle.sheet.specs.Meanings.{Outside, AlikeFor, LeftAlike, NoneBefore12, NoEarlier, Spliced, By}
 use Rattle.sheet.specs.FreeSlots.{Free, LowestFree, Takeable, OnlyTaken, Reached, upTo4}
-use Rattle.sheet.specs.declared.Clinic.{Clinic}
-use Rattle.sheet.specs.declared.SlotNumber.{SlotNumber}
-use Rattle.sheet.proofs.Stays.{book-refused}
-use Rattle.sheet.proofs.Runs.{EditRun, caller, slot, place, deleted, inserted, answer, slotBefore, slotAfter}
-use Rattle.sheet.proofs.Runs.{ImportRun, size, text, importAnswer, importAfter, EditOf}
-use Rattle.sheet.proofs.Runs.{TakeRun, taker, takeReply, GiveBackRun, giveReply, givenBefore, givenAfter}
-use Rattle.sheet.proofs.Runs.{Beside}
-use Rattle.sheet.proofs.Runs.{Run, take-run, call, before, after, reply, EitherOrder, Chained, final}
-use Rattle.sheet.proofs.Told.{told}
+use Rattle.sheet.specs.declared.entry.Clinic.{Clinic}
+use Rattle.sheet.specs.declared.entry.SlotNumber.{SlotNumber}
+use Rattle.sheet.proofs.Demand3.{EditRun, ImportRun, TakeRun, GiveBackRun, CallRun, take-run, call, before}
+use Rattle.sheet.proofs.Demand3.{after, reply, Chained, final, Begun, AsBooked}
+use Rattle.sheet.proofs.Runs.{caller, slot, place, deleted, inserted, answer, slotBefore, slotAfter, size, text}
+use Rattle.sheet.proofs.Runs.{importAnswer, importAfter, EditOf, taker, takeReply, giveReply, givenBefore}
+use Rattle.sheet.proofs.Runs.{givenAfter, Beside, EitherOrder}
+use Rattle.sheet.proofs.Demand3Proved.{as-booked, slots-as-ruled, slots-listed}
+-- the contracts
+use Rattle.sheet.proofs.setting_up.set_up.Statement as set-up-contract
+use Rattle.sheet.proofs.taking.take.Statement as take-contract
+use Rattle.sheet.proofs.taking.give_back.Statement as give-back-contract
+use Rattle.sheet.proofs.editing.edit.Statement as edit-contract
+use Rattle.sheet.proofs.importing.import.Statement as import-contract
+use Rattle.sheet.proofs.reading.read.Statement as read-contract
+use Rattle.sheet.proofs.reading.read_part.Statement as read-part-contract
+use Rattle.sheet.proofs.reading.read_number.Statement as read-number-contract
+-- what proves the claims
+use Rattle.rules.proofs.Claims.{lines-chosen}
+use Rattle.sheet.proofs.BookStays.{book-refused}
+use Rattle.sheet.proofs.RunSteps.{told}
 use Rattle.sheet.proofs.RunLaws.{run-unchanged, run-length, run-alike, run-frame, read-lines, read-nothing}
 use Rattle.sheet.proofs.RunLaws.{read-kept, run-foreign, run-14, run-misused}
-use Rattle.sheet.proofs.ClinicRuns.{same-first-reply, same-second-reply, same-after}
+use Rattle.sheet.proofs.TwoClinicRuns.{same-first-reply, same-second-reply, same-after}
 use Rattle.sheet.proofs.EditRuns.{run-splices, run-found-0, run-0, run-10, run-10-place, run-rubies, run-read}
 use Rattle.sheet.proofs.EditRuns.{run-stable, run-as-ruled, run-words-stable, run-none}
 use Rattle.sheet.proofs.EditRuns.{run-12, run-12-place, run-listed}
@@ -49,26 +65,16 @@ use Rattle.sheet.proofs.ImportRuns.{import-17, import-not-17, import-no
 use Rattle.sheet.proofs.ImportRuns.{import-leaves}
 use Rattle.sheet.proofs.PoolRuns.{run-take-1, run-take-3, run-take-13, run-take-0, run-only-taken}
 use Rattle.sheet.proofs.PoolRuns.{run-take-place, run-emptied, run-as-edit, run-give-place}
-use Rattle.sheet.proofs.Booked.{Begun, AsBooked}
-use Rattle.sheet.proofs.Histories.{as-booked, slots-as-ruled, slots-listed}
-use Rattle.sheet.proofs.setting.set_up.Statement as set-up-contract
-use Rattle.sheet.proofs.setting.set_up.Met as set-up-met
-use Rattle.sheet.proofs.taking.take.Statement as take-contract
+use Rattle.sheet.proofs.setting_up.set_up.Met as set-up-met
 use Rattle.sheet.proofs.taking.take.Met as take-met
-use Rattle.sheet.proofs.taking.give_back.Statement as give-back-contract
 use Rattle.sheet.proofs.taking.give_back.Met as give-back-met
-use Rattle.sheet.proofs.edit.Statement as edit-contract
-use Rattle.sheet.proofs.edit.Met as edit-met
-use Rattle.sheet.proofs.importing.import.Statement as import-contract
+use Rattle.sheet.proofs.editing.edit.Met as edit-met
 use Rattle.sheet.proofs.importing.import.Met as import-met
-use Rattle.sheet.proofs.read.Statement as read-contract
-use Rattle.sheet.proofs.read.Met as read-met
-use Rattle.sheet.proofs.read_part.Statement as read-part-contract
-use Rattle.sheet.proofs.read_part.Met as read-part-met
-use Rattle.sheet.proofs.read_number.Statement as read-number-contract
-use Rattle.sheet.proofs.read_number.Met as read-number-met
+use Rattle.sheet.proofs.reading.read.Met as read-met
+use Rattle.sheet.proofs.reading.read_part.Met as read-part-met
+use Rattle.sheet.proofs.reading.read_number.Met as read-number-met
 
--- Demand 1: each call answers, and leaves in the sheet, what its contract says ---------------------------------------
+-- Demand 1: each call answers, and leaves in the sheet, what its contract says --------------------------------------
 
 -- the code of src/ meets the contracts
 pub set-up-meets : {M : Type 1} → set-up-contract.statement M
@@ -96,17 +102,17 @@ pub read-number-meets : {M : Type 1} → read-number-contract.statement M
 read-number-meets = read-number-met.met
 
 -- so a run of a call replies, and leaves in the sheet, what `step` says
-pub runs-step : (r : Run) → _≡_ {A = Outcome Reply} (reply r, after r) (step (call r) (before r))
+pub runs-step : (r : CallRun) → _≡_ {A = Outcome Reply} (reply r, after r) (step (call r) (before r))
 runs-step r = told r
 
 -- every refusal leaves the whole sheet unchanged, and no call changes its length
-pub refusals-change-nothing : (r : Run) → (numberOf (reply r) ≡ 0 → ⊥) → after r ≡ before r
+pub refusals-change-nothing : (r : CallRun) → (numberOf (reply r) ≡ 0 → ⊥) → after r ≡ before r
 refusals-change-nothing r h = run-unchanged r h
 
-pub length-kept : (r : Run) → length (after r) ≡ length (before r)
+pub length-kept : (r : CallRun) → length (after r) ≡ length (before r)
 length-kept r = run-length r
 
--- Demand 2: what an edit does to its slot, and what a read hands back ------------------------------------------------
+-- Demand 2: what an edit does to its slot, and what a read hands back -----------------------------------------------
 
 module _ (u : EditRun) where
   -- the units of the slot's new records; the slot's measure and indent
@@ -163,7 +169,7 @@ module _ (u : EditRun) where
   NoneDue = NoEarlier (now (u .args .0)) (caller u .0) (slot u .0) (place u) (deleted u) (inserted u)
 
   abbrev Breakable : Type 0
-  Breakable = (ls : List (RunOf TextUnit)) × Choice us ls × Fits m x ls
+  Breakable = (ls : List (Run TextUnit)) × Choice us ls × Fits m x ls
 
   -- 0 and 10, each exactly where it is due
   pub edit-0-exactly : (answer u .number ≡ 0) ↔ (NoneDue × Breakable)
@@ -198,22 +204,22 @@ module _ (u : EditRun) where
   edit-ruby h = run-rubies u h
 
   -- a read by the same caller then hands back the line words that the rules give the records
-  pub read-after-edit : answer u .number ≡ 0 → (r : Run) → call r ≡ call-on (caller u) (slot u) reads →
+  pub read-after-edit : answer u .number ≡ 0 → (r : CallRun) → call r ≡ call-on (caller u) (slot u) reads →
       before r ≡ now (u .exit .0) → reply r ≡ read-reply 0 (lineWords 0 (compose m x us))
   read-after-edit h r e f = run-read u h r e f
 
-module _ (r : Run) (c : Clinic) (k : SlotNumber) (e : call r ≡ call-on c k reads) where
+module _ (r : CallRun) (c : Clinic) (k : SlotNumber) (e : call r ≡ call-on c k reads) where
   -- on a sheet of any words, a read that is not refused hands back the slot's used line words
   pub read-hands-back : numberOf (reply r) ≡ 0 →
       let s = slotAt (before r) (k .0) in
-      reply r ≡ read-reply 0 (take (3 * lineCountOf s) (drop 2056 s))
+      reply r ≡ read-reply 0 (take (lineLength * lineCountOf s) (drop linesAt s))
   read-hands-back h = read-lines r c k e h
 
   -- a refused one hands back nothing
   pub read-hands-none : (numberOf (reply r) ≡ 0 → ⊥) → reply r ≡ read-reply (numberOf (reply r)) []
   read-hands-none h = read-nothing r c k e h
 
--- Request 05: what an import does -------------------------------------------------------------------------------------
+-- Request 05: what an import does -----------------------------------------------------------------------------------
 
 module _ (u : ImportRun) where
   -- 17 is given exactly where the text has a fault, and names its place: whatever the sheet, the caller, the slot and
@@ -243,7 +249,7 @@ module _ (u : ImportRun) where
     pub import-records : importAnswer u .number ≡ 0 → recordsOf (importAfter u) ≡ importedRecords (size u) (reading ps)
     import-records h = import-leaves u ps s h
 
--- Request 07: what a take, a giving back and answer 14 are -----------------------------------------------------------
+-- Request 07: what a take, a giving back and answer 14 are ----------------------------------------------------------
 
 module _ (u : TakeRun) where
   -- the sheet that the take found
@@ -287,7 +293,7 @@ module _ (u : GiveBackRun) where
   pub give-back-place : giveReply u .place ≡ 0
   give-back-place = run-give-place u
 
-module _ (r : Run) (c : Clinic) (k : SlotNumber) (q : SlotCall) (e : call r ≡ call-on c k q) where
+module _ (r : CallRun) (c : Clinic) (k : SlotNumber) (q : SlotCall) (e : call r ≡ call-on c k q) where
   -- 14, of every call on a slot: exactly where none of 17, 1, 2 and 3 is due and the in-use word is 0
   pub answer-14-exactly : (numberOf (reply r) ≡ 14)
       ↔ ((faultOf q ≡ none) × Reached (before r) (c .0) (k .0) × (inUseOf (slotAt (before r) (k .0)) ≡ 0))
@@ -298,46 +304,46 @@ module _ (r : Run) (c : Clinic) (k : SlotNumber) (q : SlotCall) (e : call r ≡ 
       numberOf (reply r) ≡ 4
   in-use-above-1 f h w = run-misused r c k q e f h w
 
--- Demand 3: sequences of calls, a call's reach, and two sheets -------------------------------------------------------
+-- Demand 3: sequences of calls, a call's reach, and two sheets ------------------------------------------------------
 
 -- a sequence of runs, on a sheet of any words, that begins with an accepted set-up or with refused ones before it: one
 -- claim about the whole of it
-pub demand-3 : (ws : List ℕ) (rs : List Run) → Begun rs → Chained ws rs → AsBooked ws rs
+pub demand-3 : (ws : List ℕ) (rs : List CallRun) → Begun rs → Chained ws rs → AsBooked ws rs
 demand-3 ws rs b c = as-booked ws rs b c
 
 -- after it each slot holds what the rules give its records, so that request 03's `edit-words-stable` holds of every
 -- accepted edit that follows
-pub sequence-as-ruled : (ws : List ℕ) (rs : List Run) → Begun rs → Chained ws rs → (k : ℕ) → k < slotCount ws →
+pub sequence-as-ruled : (ws : List ℕ) (rs : List CallRun) → Begun rs → Chained ws rs → (k : ℕ) → k < slotCount ws →
     AsRuled (slotAt (final ws rs) k)
 sequence-as-ruled ws rs b c k h = slots-as-ruled ws rs b c k h
 
 -- and each of these stands in the list of its class (request 04)
-pub sequence-listed : (ws : List ℕ) (rs : List Run) → Begun rs → Chained ws rs → (k : ℕ) → k < slotCount ws →
+pub sequence-listed : (ws : List ℕ) (rs : List CallRun) → Begun rs → Chained ws rs → (k : ℕ) → k < slotCount ws →
     All Listed (recordsOf (slotAt (final ws rs) k))
 sequence-listed ws rs b c k h = slots-listed ws rs b c k h
 
 -- a call on a slot changes no word outside it, and a read none at all
-pub reach : (r : Run) (c : Clinic) (k : SlotNumber) (q : SlotCall) → call r ≡ call-on c k q →
+pub reach : (r : CallRun) (c : Clinic) (k : SlotNumber) (q : SlotCall) → call r ≡ call-on c k q →
     (i : ℕ) → Outside (k .0) i → getD (after r) i 0 ≡ getD (before r) i 0
 reach r c k q e i h = run-frame r c k q e i h
 
-pub read-reach : (r : Run) (c : Clinic) (k : SlotNumber) → call r ≡ call-on c k reads → after r ≡ before r
+pub read-reach : (r : CallRun) (c : Clinic) (k : SlotNumber) → call r ≡ call-on c k reads → after r ≡ before r
 read-reach r c k e = read-kept r c k e
 
 -- two sheets: where they are alike for a call, two runs of it reply the same, and leave the caller's own slot the same
-pub two-sheets : (r q : Run) → call r ≡ call q → AlikeFor (call r) (before r) (before q) →
+pub two-sheets : (r q : CallRun) → call r ≡ call q → AlikeFor (call r) (before r) (before q) →
     (reply r ≡ reply q) × LeftAlike (call r) (reply r) (before r) (after r) (after q)
 two-sheets r q e a = run-alike r q e a
 
 -- a clinic's call changes no word of a slot that is not its own
-pub others-kept : (r : Run) (c : Clinic) → By c (call r) → (k : ℕ) → (c .0 ≡ clinicOf (slotAt (before r) k) → ⊥) →
+pub others-kept : (r : CallRun) (c : Clinic) → By c (call r) → (k : ℕ) → (c .0 ≡ clinicOf (slotAt (before r) k) → ⊥) →
     slotAt (after r) k ≡ slotAt (before r) k
 others-kept r c b k h = run-foreign r c b k h
 
 -- "No clinic can use up another's slots." Two calls of two clinics in either order, r then q, and p, which is q's call,
 -- then t, which is r's: each is answered the same, and both leave the same sheet
 module _ (c d : Clinic) (other : c .0 ≡ d .0 → ⊥) where
-  pub either-order : (r q p t : Run) → By c (call r) → By d (call q) → EitherOrder r q p t →
+  pub either-order : (r q p t : CallRun) → By c (call r) → By d (call q) → EitherOrder r q p t →
       (reply t ≡ reply r) × (reply p ≡ reply q) × (after t ≡ after q)
   either-order r q p t b a o = (
     same-first-reply c d other r q p t b a o,
@@ -347,7 +353,7 @@ module _ (c d : Clinic) (other : c .0 ≡ d .0 → ⊥) where
 
   -- so a take by one changes no answer of a take, an edit, an import, a read or a giving back by the other, and none of
   -- these changes what the take is answered
-  pub none-used-up : (u v : TakeRun) (q p : Run) → taker u ≡ c → By d (call q) →
+  pub none-used-up : (u v : TakeRun) (q p : CallRun) → taker u ≡ c → By d (call q) →
       EitherOrder (take-run u) q p (take-run v) → (reply q ≡ reply p) × (reply (take-run v) ≡ reply (take-run u))
   none-used-up u v q p e a o =
       let s = either-order (take-run u) q p (take-run v) (ap (λ (x : Clinic). x .0) e) a o in (sym (s .1), s .0)

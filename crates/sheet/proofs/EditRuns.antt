@@ -7,7 +7,8 @@ use mathlib.Core.Logic.{_↔_}
 use mathlib.Core.Option.{none}
 use lib.ListN.{length}
 use denote.Ref.{now}
-use Rattle.rules.specs.Basics.{Run as RunOf}
+use Rattle.rules.specs.Basics.{Run}
+use Rattle.rules.specs.Layout.{recordLength}
 use Rattle.rules.specs.Records.{Rec, records}
 use Rattle.rules.specs.Groups.{TextUnit, units}
 use Rattle.rules.specs.Breaks.{runs, noBreaking}
@@ -21,11 +22,11 @@ use Rattle.rules.proofs.RubyPlaces.{rubies-placed}
 use Rattle.sheet.specs.Book.{reads, call-on, read-reply}
 use Rattle.sheet.specs.Meanings.{NoneBefore12, NoEarlier, Spliced}
 use Rattle.rules.proofs.SlotWords.{records-again}
-use Rattle.sheet.proofs.Changes.{accepted-edit, accepted-stable, accepted-used, accepted-as-ruled}
-use Rattle.sheet.proofs.Changes.{refused-none, read-after}
-use Rattle.sheet.proofs.Exactly.{found-0, exactly-0, exactly-12, place-12, exactly-10, place-10}
-use Rattle.sheet.proofs.Runs.{EditRun, caller, slot, place, deleted, inserted, answer, slotBefore, slotAfter}
-use Rattle.sheet.proofs.Runs.{Run, call, before, reply}
+use Rattle.sheet.proofs.EditChanges.{accepted-edit, accepted-stable, accepted-used, accepted-as-ruled}
+use Rattle.sheet.proofs.EditChanges.{refused-none, read-after}
+use Rattle.sheet.proofs.EditAnswers.{found-0, exactly-0, exactly-12, place-12, exactly-10, place-10}
+use Rattle.sheet.proofs.Demand3.{EditRun, CallRun, call, before, reply}
+use Rattle.sheet.proofs.Runs.{caller, slot, place, deleted, inserted, answer, slotBefore, slotAfter}
 use Rattle.sheet.proofs.RunLaws.{read-replied}
 
 module _ (u : EditRun) where
@@ -61,7 +62,7 @@ module _ (u : EditRun) where
       (found-0 ws (caller u .0) (slot u .0) (place u) (deleted u) (inserted u))
 
   abbrev pub Breakable : Type 0
-  Breakable = (ls : List (RunOf TextUnit)) × Choice us ls × Fits m x ls
+  Breakable = (ls : List (Run TextUnit)) × Choice us ls × Fits m x ls
 
   abbrev pub NoneDue : Type 0
   NoneDue = NoEarlier ws (caller u .0) (slot u .0) (place u) (deleted u) (inserted u)
@@ -111,7 +112,7 @@ module _ (u : EditRun) where
   new = compose m x us
 
   abbrev pub StableIn : Used → Used → Type 0
-  StableIn w v = StableEdit (place u) (deleted u) (length (inserted u) / 6) old new w v (answer u .redone)
+  StableIn w v = StableEdit (place u) (deleted u) (length (inserted u) / recordLength) old new w v (answer u .redone)
 
   -- what the edit composes anew, and what stays
   pub run-stable : answer u .number ≡ 0 → StableIn (usedBy old) (usedBy new)
@@ -119,7 +120,8 @@ module _ (u : EditRun) where
   run-stable =
       by-contract
       (λ o. o .0 .number ≡ 0 →
-      StableEdit (place u) (deleted u) (length (inserted u) / 6) old new (usedBy old) (usedBy new) (o .0 .redone))
+      StableEdit (place u) (deleted u) (length (inserted u) / recordLength) old new (usedBy old) (usedBy new)
+      (o .0 .redone))
       (accepted-stable ws (caller u .0) (slot u .0) (place u) (deleted u) (inserted u))
 
   run-used : answer u .number ≡ 0 → usedOf (slotAfter u) ≡ usedBy new
@@ -149,8 +151,8 @@ module _ (u : EditRun) where
   records-left : answer u .number ≡ 0 → records-new ≡ recordsOf (slotAfter u)
   records-left z =
       let s = run-splices z in
-      let same : records (inserted u) 0 (length (inserted u) / 6) ≡ s .new
-      = ap (λ w. records w 0 (length w / 6)) (sym (s .whole)) ∙ records-again (s .new) in
+      let same : records (inserted u) 0 (length (inserted u) / recordLength) ≡ s .new
+      = ap (λ w. records w 0 (length w / recordLength)) (sym (s .whole)) ∙ records-again (s .new) in
       ap (splice (recordsOf (slotBefore u)) (place u) (deleted u)) same ∙ sym (s .changed)
 
   -- its groups are within ruby place's limits
@@ -163,7 +165,7 @@ module _ (u : EditRun) where
   run-listed z = rw (← records-left z) (no-12-exactly _ .0 (run-0 .0 z .0 .listed))
 
   -- a read by the same caller on the sheet that it left
-  pub run-read : answer u .number ≡ 0 → (r : Run) → call r ≡ call-on (caller u) (slot u) reads →
+  pub run-read : answer u .number ≡ 0 → (r : CallRun) → call r ≡ call-on (caller u) (slot u) reads →
       before r ≡ now (u .exit .0) → reply r ≡ read-reply 0 (lineWords 0 (compose m x us))
   unfolding edit
   run-read z r e f =

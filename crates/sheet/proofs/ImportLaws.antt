@@ -8,11 +8,12 @@ use mathlib.Core.Logic.{_↔_}
 use mathlib.Core.Option.{Option, none, some}
 use lib.ListN.{length, drop}
 use lib.Seq.{drop-length}
+use Rattle.rules.specs.Layout.{recordLength}
 use Rattle.rules.specs.Records.{Rec, records, recordWords}
 use Rattle.rules.specs.Sheet.{countOf, recordsOf, slotAt}
 use Rattle.rules.specs.Refusals.{EditAnswer, asEdit, Outcome, splice, edit}
-use Rattle.rules.proofs.Facts.{some-none}
-use Rattle.rules.proofs.Words.{length-records}
+use Rattle.rules.proofs.Decisions.{some-none}
+use Rattle.rules.proofs.RecordWords.{length-records}
 use Rattle.rules.proofs.SlotWords.{records-again}
 use Rattle.leaflet.specs.Contents.{Piece, Spells, reading}
 use Rattle.leaflet.specs.Faults.{Fault}
@@ -22,9 +23,9 @@ use Rattle.leaflet.proofs.Claims.{words-spelt, fault-none, fault-some}
 use Rattle.sheet.specs.Import.{replaceSlot, unlessFault, import}
 use Rattle.sheet.specs.Meanings.{Spliced}
 use Rattle.sheet.proofs.OnSlot.{on-same}
-use Rattle.sheet.proofs.Faulted.{unless}
-use Rattle.sheet.proofs.NotGiven.{edit-not-17}
-use Rattle.sheet.proofs.Changes.{accepted-edit, refused-none}
+use Rattle.sheet.proofs.TextFaults.{unless}
+use Rattle.sheet.proofs.NumbersNotGiven.{edit-not-17}
+use Rattle.sheet.proofs.EditChanges.{accepted-edit, refused-none}
 
 module _ (ws : List ℕ) (caller k size : ℕ) (text : List ℕ) where
   abbrev out : Outcome EditAnswer
@@ -76,7 +77,7 @@ module _ (ws : List ℕ) (caller k size : ℕ) (text : List ℕ) where
         = omega (arith, length-records (drop 8 (slotAt ws k)) 0 (countOf (slotAt ws k))) in
         let same : d .new ≡ new
         = sym (records-again (d .new))
-        ∙ ap (λ w. records w 0 (length w / 6)) (d .whole)
+        ∙ ap (λ w. records w 0 (length w / recordLength)) (d .whole)
         ∙ records-again new in
         d .changed ∙ rw (same, n, drop-length, append-nil)
 

@@ -13,9 +13,9 @@ use Rattle.leaflet.specs.Imported.{importedRecords}
 use Rattle.leaflet.proofs.Claims.{accepted-or-fault, never-both}
 use Rattle.sheet.specs.Import.{import}
 use Rattle.sheet.proofs.ImportLaws.{exactly-17, spelt-edit, leaves-records, reports-none}
-use Rattle.sheet.proofs.Runs.{EditRun, answer}
-use Rattle.sheet.proofs.Runs.{ImportRun, importer, importSlot, size, text, importAnswer, importBefore}
-use Rattle.sheet.proofs.Runs.{importAfter, EditOf}
+use Rattle.sheet.proofs.Demand3.{EditRun, ImportRun}
+use Rattle.sheet.proofs.Runs.{answer, importer, importSlot, size, text, importAnswer, importBefore, importAfter}
+use Rattle.sheet.proofs.Runs.{EditOf}
 
 module _ (u : ImportRun) where
   abbrev ws : List ℕ

@@ -9,27 +9,28 @@ use mathlib.Core.Logic.{inl, inr}
 use lib.Dec.{eqb}
 use lib.ListN.{length, getD}
 use borrow.Author.Tests.{eqb-true, eqb-false, eq-eqb, ne-eqb}
+use Rattle.rules.specs.Layout.{slotLength}
 use Rattle.rules.specs.Sheet.{slotAt, withSlot}
-use Rattle.rules.specs.Refusals.{Answer, Outcome, called, onSlot}
-use Rattle.rules.proofs.Facts.{tested}
+use Rattle.rules.specs.Refusals.{Answer, Outcome, entryAnswer, onSlot}
+use Rattle.rules.proofs.Decisions.{tested}
 use Rattle.sheet.specs.Meanings.{Outside}
-use Rattle.sheet.proofs.Entry.{entered}
-use Rattle.sheet.proofs.Parts.{length-with, slot-with, word-with, length-at, put-back}
+use Rattle.sheet.proofs.EntryLaws.{entry-passed}
+use Rattle.sheet.proofs.SlotInSheet.{length-with, slot-with, word-with, length-at, put-back}
 
 -- what is done on a slot leaves 2,824 words of 2,824
 abbrev pub KeepsLength : {A : Type 0} → (List ℕ → Outcome A) → Type 0
-KeepsLength f = (s : List ℕ) → length s ≡ 2824 → length (f s .1) ≡ 2824
+KeepsLength f = (s : List ℕ) → length s ≡ slotLength → length (f s .1) ≡ slotLength
 
 -- and the words as they are, where its number is not 0
 abbrev pub RefusesUnchanged : {A : Type 0} → (A → ℕ) → (List ℕ → Outcome A) → Type 0
 RefusesUnchanged number f = (s : List ℕ) → (number (f s .0) ≡ 0 → ⊥) → f s .1 ≡ s
 
 -- a slot of a sheet that a call gets to
-module _ (ws : List ℕ) (caller k : ℕ) (z : called ws caller k .number ≡ 0) where
-  pub room : 2824 * k + 2824 ≤ length ws
-  room = let e = entered ws caller k z in omega (arith, e .within, e .whole .exact)
+module _ (ws : List ℕ) (caller k : ℕ) (z : entryAnswer ws caller k .number ≡ 0) where
+  pub room : slotLength * k + slotLength ≤ length ws
+  room = let e = entry-passed ws caller k z in omega (arith, e .within, e .whole .exact)
 
-  pub length-slot-at : length (slotAt ws k) ≡ 2824
+  pub length-slot-at : length (slotAt ws k) ≡ slotLength
   length-slot-at = length-at ws k room
 
 module _ {A : Type 0} (refused : Answer → A) (ws : List ℕ) (caller k : ℕ) (f : List ℕ → Outcome A) where
@@ -41,22 +42,22 @@ module _ {A : Type 0} (refused : Answer → A) (ws : List ℕ) (caller k : ℕ) 
 
   -- it is entered and changes its slot, or it leaves the sheet as it is
   pub data Done : Outcome A → Type 0 where
-    entering : called ws caller k .number ≡ 0 → Done (inside .0, withSlot ws k (inside .1))
-    refusing : (called ws caller k .number ≡ 0 → ⊥) → Done (refused (called ws caller k), ws)
+    entering : entryAnswer ws caller k .number ≡ 0 → Done (inside .0, withSlot ws k (inside .1))
+    refusing : (entryAnswer ws caller k .number ≡ 0 → ⊥) → Done (refused (entryAnswer ws caller k), ws)
 
   pub on-cases : Done out
   unfolding onSlot
   on-cases =
-      elim (tested (eqb (called ws caller k .number) 0)) [
+      elim (tested (eqb (entryAnswer ws caller k .number) 0)) [
         | inl e ↦ rw e (entering (eqb-true _ _ e))
         | inr e ↦ rw e (refusing (eqb-false _ _ e))
       ]
 
-  pub on-entering : called ws caller k .number ≡ 0 → out ≡ (inside .0, withSlot ws k (inside .1))
+  pub on-entering : entryAnswer ws caller k .number ≡ 0 → out ≡ (inside .0, withSlot ws k (inside .1))
   unfolding onSlot
   on-entering z = rw (eq-eqb _ _ z)
 
-  pub on-refusing : (called ws caller k .number ≡ 0 → ⊥) → out ≡ (refused (called ws caller k), ws)
+  pub on-refusing : (entryAnswer ws caller k .number ≡ 0 → ⊥) → out ≡ (refused (entryAnswer ws caller k), ws)
   unfolding onSlot
   on-refusing z = rw (ne-eqb _ _ z)
 
@@ -79,7 +80,7 @@ module _ {A : Type 0} (refused : Answer → A) (ws : List ℕ) (caller k : ℕ) 
         from (refusing z) = refl
 
     -- and the slot is what was done on it
-    pub on-slot : called ws caller k .number ≡ 0 → slotAt (out .1) k ≡ inside .1
+    pub on-slot : entryAnswer ws caller k .number ≡ 0 → slotAt (out .1) k ≡ inside .1
     on-slot z =
         ap (λ (o : Outcome A). slotAt (o .1) k) (on-entering z)
         ∙ slot-with ws k (inside .1) (room ws caller k z) (keeps _ (length-slot-at ws caller k z))
@@ -98,7 +99,7 @@ pub on-same : {A : Type 0} (refused : Answer → A) (ws : List ℕ) (caller k : 
     f (slotAt ws k) ≡ g (slotAt ws k) → onSlot refused ws caller k f ≡ onSlot refused ws caller k g
 unfolding onSlot
 on-same {A} refused ws caller k f g e =
-    let a = called ws caller k in
+    let a = entryAnswer ws caller k in
     ap (λ (o : Outcome A). cond (eqb (a .number) 0) (o .0, withSlot ws k (o .1)) (refused a, ws)) e
 
 -- the same call with its answer told in another way
@@ -109,7 +110,7 @@ pub on-reply : {A B : Type 0} (tell : A → B) (refused : Answer → A) (ws : Li
     (onSlot (λ a. tell (refused a)) ws caller k (λ s. (tell (f s .0), f s .1)))
 unfolding onSlot
 on-reply tell refused ws caller k f =
-    elim (tested (eqb (called ws caller k .number) 0)) [
+    elim (tested (eqb (entryAnswer ws caller k .number) 0)) [
       | inl e ↦ rw e
       | inr e ↦ rw e
     ]

@@ -11,14 +11,15 @@ use denote.Ref.{now}
 use Rattle.rules.specs.Sheet.{lengthOk, slotAt}
 use Rattle.rules.specs.Refusals.{Answer, EditAnswer, Outcome, edit}
 use Rattle.rules.specs.Pool.{useAt, taking, emptied, givingBack}
-use Rattle.rules.proofs.Facts.{ordered, true-false}
+use Rattle.rules.proofs.Decisions.{ordered, true-false}
 use Rattle.sheet.specs.FreeSlots.{Free, LowestFree, Takeable, OnlyTaken, upTo4}
 use Rattle.sheet.proofs.Lengths.{whole}
-use Rattle.sheet.proofs.Entry.{in-use-at}
-use Rattle.sheet.proofs.Granting.{Took, took-1, took-3, took-13, took-0, took}
-use Rattle.sheet.proofs.GivenBack.{as-edit, give-place, give-empties}
-use Rattle.sheet.proofs.Runs.{EditRun, place, deleted, inserted, answer, TakeRun, taker, takeReply}
-use Rattle.sheet.proofs.Runs.{GiveBackRun, giver, givenSlot, giveReply, givenBefore, givenAfter, Beside}
+use Rattle.sheet.proofs.EntryLaws.{in-use-at}
+use Rattle.sheet.proofs.TakeLaws.{Took, took-1, took-3, took-13, took-0, took}
+use Rattle.sheet.proofs.GiveBackLaws.{as-edit, give-place, give-empties}
+use Rattle.sheet.proofs.Demand3.{EditRun, TakeRun, GiveBackRun}
+use Rattle.sheet.proofs.Runs.{place, deleted, inserted, answer, taker, takeReply, giver, givenSlot, giveReply}
+use Rattle.sheet.proofs.Runs.{givenBefore, givenAfter, Beside}
 
 -- Takes -------------------------------------------------------------------------------------------------------------
 

@@ -6,18 +6,19 @@ use mathlib.Core.Logic.{inl, inr}
 use lib.Dec.{eqb}
 use borrow.Author.Tests.{eqb-true, eqb-false}
 use Rattle.rules.specs.Sheet.{slotAt}
-use Rattle.rules.specs.Refusals.{Outcome, called, onSlot, readNumber, readWords}
-use Rattle.rules.proofs.Facts.{tested}
-use Rattle.sheet.specs.Book.{Reply, read-reply, reads, refusal, readSlot, inSlot}
-use Rattle.sheet.proofs.Parts.{put-back}
-use Rattle.sheet.proofs.Reading.{number-refused, number-in-slot, read-slot, read-none}
+use Rattle.rules.specs.Refusals.{Outcome, entryAnswer, onSlot, readNumber, readWords}
+use Rattle.rules.proofs.Decisions.{tested}
+use Rattle.sheet.specs.Book.{Reply, read-reply, reads, refusal}
+use Rattle.sheet.specs.OnSheet.{readSlot, inSlot}
+use Rattle.sheet.proofs.SlotInSheet.{put-back}
+use Rattle.sheet.proofs.ReadLaws.{number-refused, number-in-slot, read-slot, read-none}
 
 module _ (ws : List ℕ) (caller k : ℕ) where
   abbrev replied : Reply
   replied = read-reply (readNumber ws caller k) (readWords ws caller k)
 
-  entered-reply : called ws caller k .number ≡ 0 → replied ≡ readSlot (slotAt ws k)
-  entered-reply z =
+  passed-reply : entryAnswer ws caller k .number ≡ 0 → replied ≡ readSlot (slotAt ws k)
+  passed-reply z =
       let n = number-in-slot ws caller k z in
       elim (tested (eqb (readNumber ws caller k) 0)) [
         | inl e ↦ rw (← n, e, read-slot ws caller k (eqb-true _ _ e))
@@ -27,10 +28,10 @@ module _ (ws : List ℕ) (caller k : ℕ) where
   pub read-on-slot : _≡_ {A = Outcome Reply} (replied, ws) (onSlot (refusal reads) ws caller k (inSlot reads))
   unfolding onSlot
   read-on-slot =
-      elim (tested (eqb (called ws caller k .number) 0)) [
+      elim (tested (eqb (entryAnswer ws caller k .number) 0)) [
         | inl e ↦
             rw e
-            (ap (λ r. (r, ws)) (entered-reply (eqb-true _ _ e))
+            (ap (λ r. (r, ws)) (passed-reply (eqb-true _ _ e))
             ∙ ap (λ w. (readSlot (slotAt ws k), w)) (sym (put-back ws k)))
         | inr e ↦
             let z = number-refused ws caller k _ refl (eqb-false _ _ e) in

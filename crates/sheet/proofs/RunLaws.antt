@@ -6,39 +6,40 @@ use mathlib.Core.List.{List, []}
 use mathlib.Core.Logic.{_↔_}
 use mathlib.Core.Option.{none}
 use lib.ListN.{length, getD, take, drop}
+use Rattle.rules.specs.Layout.{lineLength, linesAt}
 use Rattle.rules.specs.Sheet.{clinicOf, lineCountOf, inUseOf, slotAt}
 use Rattle.rules.specs.Refusals.{Outcome, readNumber, readWords}
-use Rattle.sheet.specs.Book.{SlotCall, reads, call-on, Reply, edit-reply, read-reply, numberOf, refusal}
-use Rattle.sheet.specs.Book.{faultOf, inSlot, step}
+use Rattle.sheet.specs.Book.{SlotCall, reads, call-on, Reply, edit-reply, read-reply, numberOf, refusal, faultOf}
+use Rattle.sheet.specs.OnSheet.{inSlot, step}
 use Rattle.sheet.specs.Meanings.{Outside, AlikeFor, LeftAlike, By}
 use Rattle.sheet.specs.FreeSlots.{Reached}
-use Rattle.sheet.specs.declared.Clinic.{Clinic}
-use Rattle.sheet.specs.declared.SlotNumber.{SlotNumber}
+use Rattle.sheet.specs.declared.entry.Clinic.{Clinic}
+use Rattle.sheet.specs.declared.entry.SlotNumber.{SlotNumber}
 use Rattle.sheet.proofs.OnSlot.{on-frame}
-use Rattle.sheet.proofs.Faulted.{unless}
-use Rattle.sheet.proofs.Reading.{read-slot, read-none}
+use Rattle.sheet.proofs.TextFaults.{unless}
+use Rattle.sheet.proofs.ReadLaws.{read-slot, read-none}
 use Rattle.sheet.proofs.ReadOnSlot.{read-on-slot}
 use Rattle.sheet.proofs.SlotCalls.{keeps}
-use Rattle.sheet.proofs.InUse.{step-14, step-misused}
-use Rattle.sheet.proofs.AfterCalls.{slot-kept}
-use Rattle.sheet.proofs.Frame.{refused-unchanged, step-length, same-reply, left-alike}
-use Rattle.sheet.proofs.Runs.{Run, call, before, after, reply}
-use Rattle.sheet.proofs.Told.{told}
+use Rattle.sheet.proofs.InUseAnswers.{step-14, step-misused}
+use Rattle.sheet.proofs.SlotAfterCall.{slot-kept}
+use Rattle.sheet.proofs.AnyCall.{refused-unchanged, step-length, same-reply, left-alike}
+use Rattle.sheet.proofs.Demand3.{CallRun, call, before, after, reply}
+use Rattle.sheet.proofs.RunSteps.{told}
 
 -- Any run -----------------------------------------------------------------------------------------------------------
 
 -- what holds of a call by the definitions holds of its run
-by-step : (P : Outcome Reply → Type 0) (r : Run) → P (step (call r) (before r)) → P (reply r, after r)
+by-step : (P : Outcome Reply → Type 0) (r : CallRun) → P (step (call r) (before r)) → P (reply r, after r)
 by-step P r h = subst P (sym (told r)) h
 
-pub run-unchanged : (r : Run) → (numberOf (reply r) ≡ 0 → ⊥) → after r ≡ before r
+pub run-unchanged : (r : CallRun) → (numberOf (reply r) ≡ 0 → ⊥) → after r ≡ before r
 run-unchanged r =
     by-step (λ o. (numberOf (o .0) ≡ 0 → ⊥) → o .1 ≡ before r) r (refused-unchanged (call r) (before r))
 
-pub run-length : (r : Run) → length (after r) ≡ length (before r)
+pub run-length : (r : CallRun) → length (after r) ≡ length (before r)
 run-length r = by-step (λ o. length (o .1) ≡ length (before r)) r (step-length (call r) (before r))
 
-pub run-alike : (r q : Run) → call r ≡ call q → AlikeFor (call r) (before r) (before q) →
+pub run-alike : (r q : CallRun) → call r ≡ call q → AlikeFor (call r) (before r) (before q) →
     (reply r ≡ reply q) × LeftAlike (call r) (reply r) (before r) (after r) (after q)
 run-alike r q e a =
     let other : _≡_ {A = Outcome Reply} (reply q, after q) (step (call r) (before q)) = rw (← e) at (told q) in
@@ -48,13 +49,13 @@ run-alike r q e a =
     (same-reply (call r) (before r) (before q) a, left-alike (call r) (before r) (before q) a))
 
 -- another clinic's slot
-pub run-foreign : (r : Run) (c : Clinic) → By c (call r) → (k : ℕ) → (c .0 ≡ clinicOf (slotAt (before r) k) → ⊥) →
+pub run-foreign : (r : CallRun) (c : Clinic) → By c (call r) → (k : ℕ) → (c .0 ≡ clinicOf (slotAt (before r) k) → ⊥) →
     slotAt (after r) k ≡ slotAt (before r) k
 run-foreign r c b k f =
     by-step (λ o. slotAt (o .1) k ≡ slotAt (before r) k) r (slot-kept c (call r) b (before r) k f)
 
 -- a run of a call on a slot
-module _ (r : Run) (c : Clinic) (k : SlotNumber) where
+module _ (r : CallRun) (c : Clinic) (k : SlotNumber) where
   pub run-frame : (q : SlotCall) → call r ≡ call-on c k q → (i : ℕ) → Outside (k .0) i →
       getD (after r) i 0 ≡ getD (before r) i 0
   run-frame q e i h =
@@ -98,7 +99,8 @@ module _ (r : Run) (c : Clinic) (k : SlotNumber) where
     abbrev s : List ℕ
     s = slotAt (before r) (k .0)
 
-    pub read-lines : numberOf (reply r) ≡ 0 → reply r ≡ read-reply 0 (take (3 * lineCountOf s) (drop 2056 s))
+    pub read-lines : numberOf (reply r) ≡ 0 →
+        reply r ≡ read-reply 0 (take (lineLength * lineCountOf s) (drop linesAt s))
     read-lines z =
         let n : number ≡ 0 = ap numberOf (sym read-replied) ∙ z in
         read-replied ∙ rw (n, read-slot (before r) (c .0) (k .0) n)

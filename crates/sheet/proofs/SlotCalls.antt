@@ -8,27 +8,29 @@ use mathlib.Core.List.{List, []}
 use mathlib.Core.Logic.{inl, inr}
 use lib.ListN.{length}
 use borrow.Author.Tests.{le-ltb, lt-ltb, ne-eqb}
+use Rattle.rules.specs.Layout.{mostRecords, slotLength}
 use Rattle.rules.specs.Groups.{units}
 use Rattle.rules.specs.Adjustment.{compose}
 use Rattle.rules.specs.Sheet.{withUse, fresh, clinicOf, countOf, inUseOf}
 use Rattle.rules.specs.Refusals.{Answer, says, EditAnswer, Outcome, sound, editSlot, readRows}
 use Rattle.rules.specs.Pool.{giveBackRows, giveBackSlot}
-use Rattle.rules.proofs.Facts.{tested}
+use Rattle.rules.proofs.Decisions.{tested}
 use Rattle.rules.proofs.Zeros.{length-zeros}
-use Rattle.rules.proofs.Lengths.{composed-few}
+use Rattle.rules.proofs.WordCounts.{composed-few}
 use Rattle.leaflet.specs.Reader.{wordsIn}
 use Rattle.sheet.specs.Import.{replaceSlot}
-use Rattle.sheet.specs.Book.{SlotCall, edits, imports, reads, gives-back}
-use Rattle.sheet.specs.Book.{answer-reply, edit-reply, read-reply, numberOf, refusal, readSlot, inSlot}
-use Rattle.sheet.specs.Book.{BookSlot, withRecords, used, bookEditRows, bookEdit, bookLines, inBook, encodeSlot}
+use Rattle.sheet.specs.Book.{SlotCall, edits, imports, reads, gives-back, answer-reply, edit-reply, read-reply}
+use Rattle.sheet.specs.Book.{numberOf, refusal, BookSlot, withRecords, used, bookEditRows, bookEdit, bookLines}
+use Rattle.sheet.specs.Book.{inBook}
+use Rattle.sheet.specs.OnSheet.{readSlot, inSlot, encodeSlot}
 use Rattle.sheet.proofs.Tables.{passed}
 use Rattle.sheet.proofs.OnSlot.{KeepsLength, RefusesUnchanged}
 use Rattle.rules.proofs.SlotWords.{slot-setting, slot-in-use, slot-count, slot-line-count, slot-lines, slot-fresh}
 use Rattle.rules.proofs.SlotWords.{emptied-fresh}
-use Rattle.sheet.proofs.Encode.{Sound, sound-none}
-use Rattle.sheet.proofs.Slots.{bookAnswer, edited-sound, sound-words, slot-edits}
-use Rattle.sheet.proofs.SlotChanges.{use-unsound, length-edit-slot, slot-refused, slot-clinic, slot-misused}
-use Rattle.sheet.proofs.NotGiven.{judged-not, slot-not-14}
+use Rattle.sheet.proofs.BookWords.{Sound, sound-none}
+use Rattle.sheet.proofs.BookSlots.{bookAnswer, edited-sound, sound-words, slot-edits}
+use Rattle.sheet.proofs.SlotEdits.{use-unsound, length-edit-slot, slot-refused, slot-clinic, slot-misused}
+use Rattle.sheet.proofs.NumbersNotGiven.{judged-not, slot-not-14}
 
 pub record Keeps (q : SlotCall) : Type 0 where
   -- a refusal by the rows 1 to 3 and 14 gives their number
@@ -90,7 +92,7 @@ keeps-import size text =
 
 -- the lines of a sound slot are few
 lines-few : (s : BookSlot) → Sound s →
-    length (compose (s .setting .measure) (s .setting .indent) (units (s .records))) ≤ 256
+    length (compose (s .setting .measure) (s .setting .indent) (units (s .records))) ≤ mostRecords
 lines-few s h = omega (arith, composed-few (s .setting .measure) (s .setting .indent) (s .records), h .few)
 
 read-booked : (s : BookSlot) → Sound s → readSlot (encodeSlot s) ≡ read-reply 0 (bookLines s)
@@ -133,7 +135,7 @@ give-booked s h =
     ∙ ap (λ t. fresh (withUse t 0)) (slot-setting (s .setting) (s .records))
     ∙ sym (slot-fresh (withUse (s .setting) 0))))
 
-given-length : (s : List ℕ) → length s ≡ 2824 → length (giveBackSlot s .1) ≡ 2824
+given-length : (s : List ℕ) → length s ≡ slotLength → length (giveBackSlot s .1) ≡ slotLength
 unfolding giveBackSlot giveBackRows
 given-length s h = elim (tested (sound s)) [ inl e ↦ rw e (omega (arith, length-zeros 2821)) | inr e ↦ rw e h ]
 

@@ -8,11 +8,15 @@ use lib.Dec.{eqb}
 use borrow.Author.Tests.{eqb-false, not-true}
 use Rattle.rules.specs.Basics.{firstOf}
 use Rattle.rules.specs.Refusals.{Answer, says}
-use Rattle.rules.proofs.Facts.{tested}
-use Rattle.rules.proofs.Limits.{and-left, and-right}
+use Rattle.rules.proofs.Decisions.{tested}
+use Rattle.rules.proofs.RecordLimits.{and-left, and-right}
 
 pub same-number : {a b : Answer} → a ≡ b → a .number ≡ b .number
 same-number e = ap (λ a. a .number) e
+
+-- an answer, as the program makes it
+pub said : {number place n p : ℕ} → (number ≡ n) × (place ≡ p) → says number place ≡ says n p
+said e = rw (e .0, e .1)
 
 -- no row gives number n
 abbrev pub lacking : ℕ → List (Bool × Answer) → Bool

@@ -10,27 +10,28 @@ use lib.Dec.{eqb}
 use lib.ListN.{length, set, length-set}
 use lib.Seq.{getD-set-same, getD-set-other}
 use borrow.Author.Tests.{eqb-true, eqb-false, eq-eqb, ne-eqb}
+use Rattle.rules.specs.Layout.{slotLength}
 use Rattle.rules.specs.Sheet.{withUse, settingOf, slotCount, lengthOk, slotAt, withSlot}
 use Rattle.rules.specs.Refusals.{Answer, Outcome}
 use Rattle.rules.specs.Pool.{ownSlots, takeAnswer, useAt, taking}
-use Rattle.rules.proofs.Facts.{tested}
+use Rattle.rules.proofs.Decisions.{tested}
 use Rattle.sheet.specs.Meanings.{AlikeOwn}
 use Rattle.sheet.proofs.Tables.{same-number}
 use Rattle.sheet.proofs.Lengths.{whole}
-use Rattle.sheet.proofs.Parts.{slot-with, length-at, slot-beside, set-in-slot}
+use Rattle.sheet.proofs.SlotInSheet.{slot-with, length-at, slot-beside, set-in-slot}
 use Rattle.rules.proofs.OwnSlots.{takenAt, own-taken}
-use Rattle.sheet.proofs.Granting.{settings, answers-1, answers-3, took, granted-lowest}
+use Rattle.sheet.proofs.TakeLaws.{settings, answers-1, answers-3, took, granted-lowest}
 
 -- One slot taken ----------------------------------------------------------------------------------------------------
 
-module _ (ws : List ℕ) (k : ℕ) (room : 2824 * k + 2824 ≤ length ws) where
+module _ (ws : List ℕ) (k : ℕ) (room : slotLength * k + slotLength ≤ length ws) where
   abbrev taken : List ℕ
   taken = set ws (useAt k) 1
 
   in-slot : taken ≡ withSlot ws k (set (slotAt ws k) 5 1)
   in-slot = set-in-slot ws k 5 1 room (omega arith)
 
-  length-taken : length (set (slotAt ws k) 5 1) ≡ 2824
+  length-taken : length (set (slotAt ws k) 5 1) ≡ slotLength
   length-taken = length-set (slotAt ws k) 5 1 ∙ length-at ws k room
 
   pub taken-slot : slotAt taken k ≡ set (slotAt ws k) 5 1
@@ -40,7 +41,7 @@ module _ (ws : List ℕ) (k : ℕ) (room : 2824 * k + 2824 ≤ length ws) where
   taken-beside j other =
       ap (λ l. slotAt l j) in-slot ∙ slot-beside ws k (set (slotAt ws k) 5 1) room length-taken j other
 
-  used-setting : (s : List ℕ) → length s ≡ 2824 → settingOf (set s 5 1) ≡ withUse (settingOf s) 1
+  used-setting : (s : List ℕ) → length s ≡ slotLength → settingOf (set s 5 1) ≡ withUse (settingOf s) 1
   used-setting s h =
       rw (
         getD-set-other s 5 0 1 0 (λ e. omega (arith, e)),
@@ -64,7 +65,7 @@ module _ (ws : List ℕ) (k : ℕ) (room : 2824 * k + 2824 ≤ length ws) where
   taken-own clinic =
       rw (length-set ws (useAt k) 1) (own-taken (settings ws) (settings taken) clinic k taken-settings 0 (slotCount ws))
 
--- What a take leaves -------------------------------------------------------------------------------------------------
+-- What a take leaves ------------------------------------------------------------------------------------------------
 
 module _ (ws : List ℕ) (caller : ℕ) where
   pub take-sets : taking ws caller .0 .number ≡ 0 → taking ws caller .1 ≡ set ws (useAt (taking ws caller .0 .place)) 1
@@ -83,7 +84,7 @@ module _ (ws : List ℕ) (caller : ℕ) where
       ]
 
   -- there is room for the slot that is granted
-  pub granted-room : taking ws caller .0 .number ≡ 0 → 2824 * taking ws caller .0 .place + 2824 ≤ length ws
+  pub granted-room : taking ws caller .0 .number ≡ 0 → slotLength * taking ws caller .0 .place + slotLength ≤ length ws
   granted-room z =
       let g = granted-lowest (took ws caller) z in
       omega (arith, whole (length ws) (g .0 .whole) .exact, g .1 .free .within)
@@ -95,7 +96,7 @@ module _ (ws : List ℕ) (caller : ℕ) (a : Answer)
   unfolding taking
   same-answer = sym e
 
-  pub answer-room : a .number ≡ 0 → 2824 * a .place + 2824 ≤ length ws
+  pub answer-room : a .number ≡ 0 → slotLength * a .place + slotLength ≤ length ws
   answer-room z =
       omega (arith, granted-room ws caller (same-number same-answer ∙ z), ap (λ (b : Answer). b .place) same-answer)
 

@@ -1,5 +1,6 @@
 -- Document 02, request 05: an import, on a sheet. What a text's fault and its words are is crate `leaflet`'s.
 --
+--   room length      the words of one record more than a slot holds
 --   replace slot     "The words replace the slot's records through edit": the edit that they are
 --   unless fault     "All such faults are answer 17, before edit's"
 --   import           a text's words in place of a slot's records, or answer 17 and its place

@@ -6,14 +6,15 @@ use lib.ListN.{length}
 use Rattle.rules.specs.Refusals.{Answer, says, orElse, badSlot, freshSlots}
 
 -- lists of clinics, measures and indents, of one length
-pub record Matched (cs ms xs : List ℕ) : Type 0 where
-  pub measures : length ms ≡ length cs
-  pub indents : length xs ≡ length cs
+pub record Matched (clinics measures indents : List ℕ) : Type 0 where
+  pub same-measures : length measures ≡ length clinics
+  pub same-indents : length indents ≡ length clinics
 
 -- answer 11 and the first slot out of limits, or 0 and the number of slots
 abbrev pub limitsAnswer : List ℕ → List ℕ → List ℕ → Answer
-limitsAnswer cs ms xs = orElse 11 (badSlot 0 cs ms xs (length cs)) (says 0 (length cs))
+limitsAnswer clinics measures indents =
+    orElse 11 (badSlot 0 clinics measures indents (length clinics)) (says 0 (length clinics))
 
 -- the words of a sheet whose slots are all fresh
 abbrev pub allFresh : List ℕ → List ℕ → List ℕ → List ℕ
-allFresh cs ms xs = freshSlots 0 cs ms xs (length cs)
+allFresh clinics measures indents = freshSlots 0 clinics measures indents (length clinics)

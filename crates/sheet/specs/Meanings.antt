@@ -19,23 +19,24 @@ use mathlib.Core.Option.{none}
 use lib.Dec.{leb}
 use lib.ListN.{length}
 use Rattle.rules.specs.Basics.{firstOf}
+use Rattle.rules.specs.Layout.{slotLength}
 use Rattle.rules.specs.Records.{Rec, badRecord, recordWords}
 use Rattle.rules.specs.Listed.{notListed}
 use Rattle.rules.specs.Groups.{groupFault, units}
 use Rattle.rules.specs.Adjustment.{compose}
 use Rattle.rules.specs.Sheet.{slotWords, clinicOf, measureOf, indentOf, settingOf, recordsOf, lengthOk, slotAt}
-use Rattle.rules.specs.Refusals.{EditAnswer, says, splice, edited, slotRows, called}
+use Rattle.rules.specs.Refusals.{EditAnswer, says, splice, edited, slotRows, entryAnswer}
 use Rattle.rules.specs.Pool.{ownSlots}
 use Rattle.sheet.specs.Book.{Call, call-set-up, call-take, call-on, Reply, numberOf}
-use Rattle.sheet.specs.declared.Clinic.{Clinic}
+use Rattle.sheet.specs.declared.entry.Clinic.{Clinic}
 
 -- word i is not one of slot k's 2,824
 abbrev pub Outside : ℕ → ℕ → Type 0
-Outside k i = (i < 2824 * k) ⊎ (2824 * k + 2824 ≤ i)
+Outside k i = (i < slotLength * k) ⊎ (slotLength * k + slotLength ≤ i)
 
 -- answer 1 or 2 is due on a sheet of n words
 abbrev pub beyond : ℕ → ℕ → Bool
-beyond n k = not (lengthOk n) || leb (n / 2824) k
+beyond n k = not (lengthOk n) || leb (n / slotLength) k
 
 -- sheets of one length, alike in slot k's clinic and, where that is a caller other than 0, in the slot's words; where
 -- answer 1 or 2 is due, alike in length alone
@@ -53,31 +54,31 @@ pub record AlikeOwn (caller : ℕ) (ws vs : List ℕ) : Type 0 where
 -- for a call: a set-up looks at the sheet's length alone, and "taking depends only on the caller, P and the caller's
 -- own slots"
 abbrev pub AlikeFor : Call → List ℕ → List ℕ → Type 0
-AlikeFor (call-set-up cs ms xs) ws vs = length ws ≡ length vs
-AlikeFor (call-take c) ws vs = AlikeOwn (c .0) ws vs
-AlikeFor (call-on c k q) ws vs = Alike (c .0) (k .0) ws vs
+AlikeFor (call-set-up clinics measures indents) ws vs = length ws ≡ length vs
+AlikeFor (call-take caller) ws vs = AlikeOwn (caller .0) ws vs
+AlikeFor (call-on caller k q) ws vs = Alike (caller .0) (k .0) ws vs
 
 -- what a call with reply a leaves of a sheet ws and of another that was alike for it: an accepted set-up leaves the
 -- two sheets the same, a take sheets that are alike for the caller's next, a call on a slot the slot, where the caller
 -- is its clinic
 abbrev pub LeftAlike : Call → Reply → List ℕ → List ℕ → List ℕ → Type 0
-LeftAlike (call-set-up cs ms xs) a ws left right = numberOf a ≡ 0 → left ≡ right
-LeftAlike (call-take c) a ws left right = AlikeOwn (c .0) left right
-LeftAlike (call-on c k q) a ws left right =
-    beyond (length ws) (k .0) ≡ false → (c .0 ≡ 0 → ⊥) → c .0 ≡ clinicOf (slotAt ws (k .0)) →
+LeftAlike (call-set-up clinics measures indents) a ws left right = numberOf a ≡ 0 → left ≡ right
+LeftAlike (call-take caller) a ws left right = AlikeOwn (caller .0) left right
+LeftAlike (call-on caller k q) a ws left right =
+    beyond (length ws) (k .0) ≡ false → (caller .0 ≡ 0 → ⊥) → caller .0 ≡ clinicOf (slotAt ws (k .0)) →
     slotAt left (k .0) ≡ slotAt right (k .0)
 
 -- no answer before 12 is due on an edit: the rows 1 to 3, 14 and 4 to 7 do not apply, and each record that would result
 -- keeps its own rules
 pub record NoneBefore12 (ws : List ℕ) (caller k place deleted : ℕ) (inserted : List ℕ) : Type 0 where
-  pub call : called ws caller k .number ≡ 0
+  pub call : entryAnswer ws caller k .number ≡ 0
   pub slot : firstOf (slotRows (slotAt ws k) place deleted inserted) (says 0 0) .number ≡ 0
   pub records : badRecord 0 (edited (slotAt ws k) place deleted inserted) ≡ none
 
 -- no answer before 10 is due on an edit: the rows 1 to 3, 14 and 4 to 7 do not apply, and each record that would result
 -- keeps its own rules, stands in the list of its class and keeps its group's rules
 pub record NoEarlier (ws : List ℕ) (caller k place deleted : ℕ) (inserted : List ℕ) : Type 0 where
-  pub call : called ws caller k .number ≡ 0
+  pub call : entryAnswer ws caller k .number ≡ 0
   pub slot : firstOf (slotRows (slotAt ws k) place deleted inserted) (says 0 0) .number ≡ 0
   pub records : badRecord 0 (edited (slotAt ws k) place deleted inserted) ≡ none
   pub listed : notListed 0 (edited (slotAt ws k) place deleted inserted) ≡ none
@@ -96,6 +97,6 @@ pub record Spliced (s t : List ℕ) (a : EditAnswer) (place deleted : ℕ) (inse
 
 -- set-up is nobody's
 abbrev pub By : Clinic → Call → Type 0
-By d (call-set-up cs ms xs) = ⊥
-By d (call-take c) = c .0 ≡ d .0
-By d (call-on c k q) = c .0 ≡ d .0
+By d (call-set-up clinics measures indents) = ⊥
+By d (call-take caller) = caller .0 ≡ d .0
+By d (call-on caller k q) = caller .0 ≡ d .0

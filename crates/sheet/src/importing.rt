@@ -1,15 +1,20 @@
 // Import: the records of a web leaflet in place of a slot's.
-use crate::Clinic;
-use crate::EditAnswer;
-use crate::SlotNumber;
-use crate::called;
+use crate::entry::Clinic;
+use crate::entry::SlotNumber;
+use crate::entry::entry_answer;
+use leaflet::ROOM;
 use leaflet::Reading;
 use leaflet::read_leaflet;
+use rules::layout::RECORD_COUNT;
+use rules::layout::SLOT_WORDS;
+use slot::EditAnswer;
 use slot::edit_slot;
+use slot::refusal;
 ghost use mathlib.Core.Path.{_≡_};
 ghost use Prim.Native.Nat.{_≤_};
 ghost use lib.ListN.{take};
 ghost use Rattle.rules.specs.Refusals.{editSays, asEdit, onSlot};
+ghost use Rattle.leaflet.specs.Written.{room};
 ghost use Rattle.sheet.specs.Import.{replaceSlot, import as importOf};
 
 // An import's answer is a type of its own: the byte offset that 17 names may be beyond 32 bits.
@@ -25,17 +30,13 @@ fn replace_all(sheet: &mut [u32], caller: Clinic, slot: SlotNumber, inserted: &[
     ensures { λ r. ⌜ (editSays (r .number) (r .place) (r .redone), now (sheet .exit))
         ≡ onSlot asEdit (now (sheet .entry)) (caller .0) (slot .0) (λ s. replaceSlot s (now (inserted .entry))) ⌝ }
 {
-    let refusal = called(sheet, caller, slot);
-    if refusal.number != 0 {
-        return EditAnswer {
-            number: refusal.number,
-            place: refusal.place,
-            redone: 0,
-        };
+    let entry = entry_answer(sheet, caller, slot);
+    if entry.number != 0 {
+        return refusal(entry.number, entry.place);
     }
-    let start = 2824 * slot.0 as usize;
-    let end = start + 2824;
-    let count = sheet[start + 3];
+    let start = SLOT_WORDS * slot.0 as usize;
+    let end = start + SLOT_WORDS;
+    let count = sheet[start + RECORD_COUNT];
     edit_slot(&mut sheet[start..end], 0, count, inserted)
 }
 
@@ -56,10 +57,10 @@ fn replace_by(
     sheet: &mut [u32],
     caller: Clinic,
     slot: SlotNumber,
-    words: &[u32; 1542],
+    words: &[u32; ROOM],
     n: usize,
 ) -> ImportAnswer
-    requires { ⌜ n ≤ 1542 ⌝ }
+    requires { ⌜ n ≤ room ⌝ }
     ensures { λ r. ⌜ (editSays (r .number) (r .place) (r .redone), now (sheet .exit))
         ≡ onSlot asEdit (now (sheet .entry)) (caller .0) (slot .0)
         (λ s. replaceSlot s (take n (now (words .entry)))) ⌝ }
@@ -81,8 +82,7 @@ pub fn import(
     ensures { λ r. ⌜ (editSays (r .number) (r .place) (r .redone), now (sheet .exit))
         ≡ importOf (now (sheet .entry)) (caller .0) (slot .0) size (now (text .entry)) ⌝ }
 {
-    // room for one record more than a slot holds
-    let mut words = [0u32; 1542];
+    let mut words = [0u32; ROOM];
     match read_leaflet(text, size, &mut words) {
         Reading::Fault(place) => ImportAnswer {
             number: 17,

@@ -1,40 +1,38 @@
 // Slots taken and given back: document 02, request 07.
-use crate::Answer;
-use crate::Clinic;
-use crate::SlotNumber;
-use crate::called;
-use crate::slot_count;
+use crate::entry::Clinic;
+use crate::entry::SlotNumber;
+use crate::entry::entry_answer;
+use crate::entry::slot_count;
+use rules::Answer;
+use rules::layout::IN_USE;
+use rules::layout::SLOT_WORDS;
+use rules::says;
 use slot::give_back_slot;
 ghost use mathlib.Core.Path.{_≡_};
 ghost use Prim.Native.Nat.{_*_, _≤_};
 ghost use lib.ListN.{length};
+ghost use Rattle.rules.specs.Layout.{mostSlots, slotLength};
 ghost use Rattle.rules.specs.Refusals.{says};
 ghost use Rattle.rules.specs.Pool.{granted, lowestFree, ownSlots, takeAnswer, taking, givingBack};
 
 // The number of the caller's lowest-numbered slot whose in-use word is 0, or 13. Of a slot it looks at the clinic and,
 // where that is the caller, at the in-use word.
 fn lowest_free(sheet: &[u32], caller: u32, slots: usize) -> Answer
-    requires { ⌜ (length (now sheet) ≡ 2824 * slots) × (slots ≤ 64) ⌝ }
+    requires { ⌜ (length (now sheet) ≡ slotLength * slots) × (slots ≤ mostSlots) ⌝ }
     ensures { λ r. ⌜ says (r .number) (r .place)
         ≡ granted (lowestFree (ownSlots (now (sheet .entry)) caller)) ⌝ }
 {
     let mut k = 0;
     while k < slots {
-        let head = 2824 * k;
+        let head = SLOT_WORDS * k;
         if sheet[head] == caller {
-            if sheet[head + 5] == 0 {
-                return Answer {
-                    number: 0,
-                    place: k as u32,
-                };
+            if sheet[head + IN_USE] == 0 {
+                return says(0, k as u32);
             }
         }
         k += 1;
     }
-    Answer {
-        number: 13,
-        place: 0,
-    }
+    says(13, 0)
 }
 
 // What a take answers.
@@ -44,16 +42,10 @@ fn take_answer(sheet: &[u32], caller: Clinic) -> Answer
 {
     let slots = slot_count(sheet.len());
     if slots == 0 {
-        return Answer {
-            number: 1,
-            place: 0,
-        };
+        return says(1, 0);
     }
     if caller.0 == 0 {
-        return Answer {
-            number: 3,
-            place: 0,
-        };
+        return says(3, 0);
     }
     lowest_free(sheet, caller.0, slots)
 }
@@ -64,8 +56,8 @@ pub fn take(sheet: &mut [u32], caller: Clinic) -> Answer
 {
     let answer = take_answer(sheet, caller);
     if answer.number == 0 {
-        let head = 2824 * answer.place as usize;
-        sheet[head + 5] = 1;
+        let head = SLOT_WORDS * answer.place as usize;
+        sheet[head + IN_USE] = 1;
     }
     answer
 }
@@ -75,11 +67,11 @@ pub fn give_back(sheet: &mut [u32], caller: Clinic, slot: SlotNumber) -> Answer
     ensures { λ r. ⌜ (says (r .number) (r .place), now (sheet .exit))
         ≡ givingBack (now (sheet .entry)) (caller .0) (slot .0) ⌝ }
 {
-    let refusal = called(sheet, caller, slot);
-    if refusal.number != 0 {
-        return refusal;
+    let entry = entry_answer(sheet, caller, slot);
+    if entry.number != 0 {
+        return entry;
     }
-    let start = 2824 * slot.0 as usize;
-    let end = start + 2824;
+    let start = SLOT_WORDS * slot.0 as usize;
+    let end = start + SLOT_WORDS;
     give_back_slot(&mut sheet[start..end])
 }

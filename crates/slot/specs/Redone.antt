@@ -10,6 +10,7 @@ use Prim.Native.Nat.{ℕ, _*_, _-_, _≤_, _<_}
 use mathlib.Core.Bool.{Bool, true, false}
 use mathlib.Core.List.{List}
 use lib.ListN.{length, getD, drop}
+use Rattle.rules.specs.Layout.{mostRecords, lineLength, linesAt}
 use Rattle.rules.specs.Adjustment.{Line}
 use Rattle.rules.specs.Redone.{start, firstRedone, report}
 
@@ -22,7 +23,7 @@ abbrev pub Starts : List ℕ → ℕ → List Line → Type 0
 Starts starts n ls = Firsts (λ j. getD starts j 0) n ls
 
 abbrev pub LineWords : List ℕ → ℕ → List Line → Type 0
-LineWords ws n ls = Firsts (λ j. getD ws (3 * j) 0) n ls
+LineWords ws n ls = Firsts (λ j. getD ws (lineLength * j) 0) n ls
 
 -- j is the first of n lines, from line i on, that starts with record r or a later one; or, if none does, their number,
 -- or i where that is no less
@@ -48,16 +49,16 @@ Reported starts n words count place deleted inserted r =
 
 -- few lines, n before an edit and `count` after it, and few records
 pub record Countable (n count place deleted inserted : ℕ) : Type 0 where
-  pub few-old : n ≤ 256
-  pub few : count ≤ 256
-  pub few-before : place ≤ 256
-  pub few-deleted : deleted ≤ 256
-  pub few-inserted : inserted ≤ 256
+  pub few-old : n ≤ mostRecords
+  pub few : count ≤ mostRecords
+  pub few-before : place ≤ mostRecords
+  pub few-deleted : deleted ≤ mostRecords
+  pub few-inserted : inserted ≤ mostRecords
 
 -- an edit's answer, from the new records' own, with their line words in the slot s
 pub record Counted (starts : List ℕ) (n : ℕ) (s : List ℕ) (number count place deleted inserted : ℕ)
     (answer lines redone : ℕ) : Type 0 where
   pub same-number : answer ≡ number
   pub same-place : lines ≡ count
-  pub accepted : number ≡ 0 → Reported starts n (drop 2056 s) count place deleted inserted redone
+  pub accepted : number ≡ 0 → Reported starts n (drop linesAt s) count place deleted inserted redone
   pub refused : (number ≡ 0 → ⊥) → redone ≡ 0

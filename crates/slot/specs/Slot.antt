@@ -13,6 +13,7 @@ use mathlib.Core.Bool.{true, cond}
 use lib.Dec.{eqb}
 use lib.ListN.{length, take, drop}
 use Rattle.rules.specs.Basics.{zeros}
+use Rattle.rules.specs.Layout.{recordLength, recordsLength, slotLength, recordsAt}
 use Rattle.rules.specs.Records.{Rec}
 use Rattle.rules.specs.Sheet.{head, slotWords, countOf, measureOf, indentOf, settingOf, limitsOk}
 use Rattle.rules.specs.Refusals.{Answer, Outcome, judged, sound}
@@ -33,7 +34,7 @@ splicedInto list ws before after inserted =
 
 -- the words of its records
 abbrev pub storedWords : List ℕ → List ℕ
-storedWords s = take (8 + 6 * countOf s - 8) (drop 8 s)
+storedWords s = take (recordsAt + recordLength * countOf s - recordsAt) (drop recordsAt s)
 
 pub record StoredLines (s starts : List ℕ) (number place : ℕ) : Type 0 where
   pub answer : number ≡ cond (sound s) 0 4
@@ -47,9 +48,9 @@ replaced s rs =
 -- a slot whose measure and indent are within limits, and a list of whole records, with zeros past them, to replace
 -- its own
 pub record Replaceable (s list : List ℕ) (total : ℕ) : Type 0 where
-  pub slot : length s ≡ 2824
+  pub slot : length s ≡ slotLength
   pub limits : limitsOk (measureOf s) (indentOf s) ≡ true
-  pub full : length list ≡ 1536
-  pub room : total ≤ 1536
-  pub whole : total % 6 ≡ 0
-  pub rest : drop total list ≡ zeros (1536 - total)
+  pub full : length list ≡ recordsLength
+  pub room : total ≤ recordsLength
+  pub whole : total % recordLength ≡ 0
+  pub rest : drop total list ≡ zeros (recordsLength - total)

@@ -1,21 +1,37 @@
 // An edit of one slot: answers 4 to 10 and 12, and every word of the slot written where it is accepted.
 ghost use mathlib.Core.Path.{_≡_};
 ghost use lib.ListN.{length, take};
+ghost use Rattle.rules.specs.Layout.{slotLength};
 ghost use Rattle.rules.specs.Refusals.{says, editSays, editSlot};
 ghost use Rattle.compose.specs.Paragraph.{paragraph};
-ghost use Rattle.compose.specs.Scan.{RowsFrom, Front};
+ghost use Rattle.compose.specs.Scan.{FilledFrom, Front};
 ghost use Rattle.compose.specs.Composed.{Kept};
 ghost use Rattle.slot.specs.Redone.{Countable, Counted};
 ghost use Rattle.slot.specs.Slot.{storedWords, StoredLines, replaced, Replaceable};
 use crate::redone::lines_redone;
 use crate::words::splice;
 use crate::words::write_slot;
-use compose::Answer;
 use compose::check;
 use compose::compose;
-use compose::keep_rows;
+use compose::keep_metrics;
+use rules::Answer;
+use rules::excess;
+use rules::layout::IN_USE;
+use rules::layout::INDENT;
+use rules::layout::LINES;
+use rules::layout::LINES_WORDS;
+use rules::layout::MEASURE;
+use rules::layout::MOST_RECORDS;
+use rules::layout::PLACES_WORDS;
+use rules::layout::RECORD_COUNT;
+use rules::layout::RECORD_WORDS;
+use rules::layout::RECORDS;
+use rules::layout::RECORDS_WORDS;
 use rules::limits_ok;
-use rules::over;
+use rules::says;
+
+// The most that a record count may be, as a word.
+const MOST_COUNT: u32 = MOST_RECORDS as u32;
 
 // A number and a place, as document 01's table of refusals has them for an edit, and the lines composed anew. A
 // refused edit has composed none.
@@ -26,7 +42,7 @@ pub struct EditAnswer {
     pub redone: u32,
 }
 
-fn refusal(number: u32, place: u32) -> EditAnswer
+pub fn refusal(number: u32, place: u32) -> EditAnswer
     ensures { λ r. ⌜ (r .number ≡ number) × (r .place ≡ place) × (r .redone ≡ 0) ⌝ }
 {
     EditAnswer {
@@ -39,41 +55,38 @@ fn refusal(number: u32, place: u32) -> EditAnswer
 pub(crate) fn damaged() -> Answer
     ensures { λ r. ⌜ (r .number ≡ 4) × (r .place ≡ 0) ⌝ }
 {
-    Answer {
-        number: 4,
-        place: 0,
-    }
+    says(4, 0)
 }
 
-// Answer 4, or 0 and how many lines the rules give the slot's records: then the records' rows are filled, and the
+// Answer 4, or 0 and how many lines the rules give the slot's records: then the records' metrics are filled, and the
 // first record of each line stands in `starts`. The stored line words are not looked at, since on a sheet of any words
 // they may be anything.
 pub(crate) fn stored_lines(
     words: &[u32],
-    advances: &mut [u32; 256],
-    gaps: &mut [u64; 256],
-    offsets: &mut [u32; 256],
-    starts: &mut [u32; 256],
+    advances: &mut [u32; MOST_RECORDS],
+    gaps: &mut [u64; MOST_RECORDS],
+    offsets: &mut [u32; MOST_RECORDS],
+    starts: &mut [u32; MOST_RECORDS],
 ) -> Answer
-    requires { ⌜ length (now words) ≡ 2824 ⌝ }
+    requires { ⌜ length (now words) ≡ slotLength ⌝ }
     ensures lines { λ r. ⌜ StoredLines (now (words .entry)) (now (starts .exit)) (r .number) (r .place) ⌝ }
-    ensures rows { λ r. ⌜ (r .number ≡ 0 → Kept (storedWords (now (words .entry))) (now (advances .exit))
+    ensures metrics { λ r. ⌜ (r .number ≡ 0 → Kept (storedWords (now (words .entry))) (now (advances .exit))
         (now (gaps .exit)) (now (offsets .exit))) ⌝ }
 {
-    let m = words[1];
-    let x = words[2];
-    let count = words[3];
+    let m = words[MEASURE];
+    let x = words[INDENT];
+    let count = words[RECORD_COUNT];
     if !limits_ok(m, x) {
         return damaged();
     }
-    if 256 < count {
+    if MOST_COUNT < count {
         return damaged();
     }
-    if 1 < words[5] {
+    if 1 < words[IN_USE] {
         return damaged();
     }
-    let end = 8 + 6 * count as usize;
-    let a = check(&words[8..end], m, x, advances, gaps, offsets, starts);
+    let end = RECORDS + RECORD_WORDS * count as usize;
+    let a = check(&words[RECORDS..end], m, x, advances, gaps, offsets, starts);
     if a.number != 0 {
         return damaged();
     }
@@ -81,7 +94,7 @@ pub(crate) fn stored_lines(
 }
 
 // Composes the first `total` words of `list` as the slot's records and, where they are accepted, writes the slot. The
-// records before `known` were the slot's, and answer 4 has asked them. The rows of the records from `kept` on are
+// records before `known` were the slot's, and answer 4 has asked them. The metrics of the records from `kept` on are
 // filled, and those before the unit that record `stop` is in.
 fn replace(
     words: &mut [u32],
@@ -90,20 +103,20 @@ fn replace(
     known: usize,
     stop: usize,
     kept: usize,
-    advances: &mut [u32; 256],
-    gaps: &mut [u64; 256],
-    offsets: &mut [u32; 256],
+    advances: &mut [u32; MOST_RECORDS],
+    gaps: &mut [u64; MOST_RECORDS],
+    offsets: &mut [u32; MOST_RECORDS],
 ) -> Answer
     requires { ⌜ Replaceable (now words) (now list) total ⌝ }
-    requires { ⌜ RowsFrom (take total (now list)) known kept (now advances) (now gaps) (now offsets) ⌝ }
+    requires { ⌜ FilledFrom (take total (now list)) known kept (now advances) (now gaps) (now offsets) ⌝ }
     requires { ⌜ Front (take total (now list)) known stop (now advances) (now gaps) (now offsets) ⌝ }
     ensures { λ r. ⌜ (says (r .number) (r .place), now (words .exit)) ≡
         replaced (now (words .entry)) (paragraph (take total (now (list .entry)))) ⌝ }
 {
-    let m = words[1];
-    let x = words[2];
-    let mut places = [0u32; 512];
-    let mut lines = [0u32; 768];
+    let m = words[MEASURE];
+    let x = words[INDENT];
+    let mut places = [0u32; PLACES_WORDS];
+    let mut lines = [0u32; LINES_WORDS];
     let a = compose(
         &list[0..total],
         known,
@@ -118,7 +131,14 @@ fn replace(
         &mut lines,
     );
     if a.number == 0 {
-        write_slot(words, (total / 6) as u32, a.place, list, &places, &lines);
+        write_slot(
+            words,
+            (total / RECORD_WORDS) as u32,
+            a.place,
+            list,
+            &places,
+            &lines,
+        );
     }
     a
 }
@@ -127,14 +147,14 @@ fn replace(
 // start as `starts` has it, new ones as the slot's words do.
 fn counted(
     a: Answer,
-    starts: &[u32; 256],
+    starts: &[u32; MOST_RECORDS],
     old_lines: u32,
     words: &[u32],
     place: u32,
     deleted: u32,
     inserted: usize,
 ) -> EditAnswer
-    requires { ⌜ (length (now words) ≡ 2824)
+    requires { ⌜ (length (now words) ≡ slotLength)
         × (a .number ≡ 0 → Countable «old_lines» (a .place) place deleted inserted) ⌝ }
     ensures { λ r. ⌜ Counted (now (starts .entry)) «old_lines» (now (words .entry)) (a .number) (a .place)
         place deleted inserted (r .number) (r .place) (r .redone) ⌝ }
@@ -145,7 +165,7 @@ fn counted(
     let redone = lines_redone(
         starts,
         old_lines as usize,
-        &words[2056..],
+        &words[LINES..],
         a.place as usize,
         place as usize,
         deleted as usize,
@@ -161,19 +181,19 @@ fn counted(
 // One slot's edit: `deleted` records go out at `place`, and the inserted ones come in there. The new record list is
 // held in a local until every check has passed.
 pub fn edit_slot(words: &mut [u32], place: u32, deleted: u32, inserted: &[u32]) -> EditAnswer
-    requires { ⌜ length (now words) ≡ 2824 ⌝ }
+    requires { ⌜ length (now words) ≡ slotLength ⌝ }
     ensures { λ r. ⌜ (editSays (r .number) (r .place) (r .redone), now (words .exit)) ≡
         editSlot (now (words .entry)) place deleted (now (inserted .entry)) ⌝ }
 {
-    let mut advances = [0u32; 256];
-    let mut gaps = [0u64; 256];
-    let mut offsets = [0u32; 256];
-    let mut starts = [0u32; 256];
+    let mut advances = [0u32; MOST_RECORDS];
+    let mut gaps = [0u64; MOST_RECORDS];
+    let mut offsets = [0u32; MOST_RECORDS];
+    let mut starts = [0u32; MOST_RECORDS];
     let stored = stored_lines(words, &mut advances, &mut gaps, &mut offsets, &mut starts);
     if stored.number != 0 {
         return refusal(4, 0);
     }
-    let count = words[3];
+    let count = words[RECORD_COUNT];
     if count < place {
         return refusal(5, count);
     }
@@ -181,43 +201,51 @@ pub fn edit_slot(words: &mut [u32], place: u32, deleted: u32, inserted: &[u32]) 
         return refusal(5, count);
     }
     let n = inserted.len();
-    if n % 6 != 0 {
+    if n % RECORD_WORDS != 0 {
         return refusal(6, 0);
     }
-    let kept = (count - deleted) as usize * 6;
-    if 1536 < kept + n {
+    let kept = (count - deleted) as usize * RECORD_WORDS;
+    if RECORDS_WORDS < kept + n {
         return refusal(7, 0);
     }
-    let mut list = [0u32; 1536];
-    let end = 8 + 6 * count as usize;
+    let mut list = [0u32; RECORDS_WORDS];
+    let end = RECORDS + RECORD_WORDS * count as usize;
     splice(
         &mut list,
-        &words[8..end],
-        place as usize * 6,
-        (place + deleted) as usize * 6,
+        &words[RECORDS..end],
+        place as usize * RECORD_WORDS,
+        (place + deleted) as usize * RECORD_WORDS,
         inserted,
     );
     let start = place as usize;
-    let rows = keep_rows(
-        &words[8..end],
+    let metrics = keep_metrics(
+        &words[RECORDS..end],
         (place + deleted) as usize,
-        start + n / 6,
+        start + n / RECORD_WORDS,
         &mut advances,
         &mut gaps,
         &mut offsets,
     );
     // the unit before the place may have been cut, or joined to what comes in
-    let stop = over(place, 1) as usize;
+    let stop = excess(place, 1) as usize;
     let a = replace(
         words,
         &list,
         kept + n,
         start,
         stop,
-        rows,
+        metrics,
         &mut advances,
         &mut gaps,
         &mut offsets,
     );
-    counted(a, &starts, stored.place, words, place, deleted, n / 6)
+    counted(
+        a,
+        &starts,
+        stored.place,
+        words,
+        place,
+        deleted,
+        n / RECORD_WORDS,
+    )
 }

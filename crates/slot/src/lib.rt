@@ -4,8 +4,8 @@ mod giving;
 mod redone;
 mod words;
 
-pub use compose::Answer;
 pub use edit::EditAnswer;
 pub use edit::edit_slot;
+pub use edit::refusal;
 pub use giving::give_back_slot;
 pub use words::clear;

@@ -3,7 +3,9 @@
 ghost use mathlib.Core.Path.{_≡_};
 ghost use Prim.Native.Nat.{_≤_};
 ghost use lib.ListN.{length};
+ghost use Rattle.rules.specs.Layout.{mostRecords, linesLength};
 ghost use Rattle.slot.specs.Redone.{FirstFrom, StartsWith, FirstRedone, Countable, Reported};
+use rules::layout::LINE_WORDS;
 
 // The first line from line `from` on that starts with record `first` or a later one, or how many lines there are.
 fn line_from(starts: &[u32], count: usize, from: usize, first: usize) -> usize
@@ -22,7 +24,7 @@ fn line_from(starts: &[u32], count: usize, from: usize, first: usize) -> usize
 
 // f: the line before the one that holds the place, or 0.
 fn first_redone(starts: &[u32], count: usize, place: usize) -> usize
-    requires { ⌜ (count ≤ length (now starts)) × (place ≤ 256) ⌝ }
+    requires { ⌜ (count ≤ length (now starts)) × (place ≤ mostRecords) ⌝ }
     ensures { λ f. ⌜ FirstRedone (now (starts .entry)) count place f ⌝ }
 {
     let next = line_from(starts, count, 1, place + 1);
@@ -52,8 +54,8 @@ pub(crate) fn lines_redone(
     inserted: usize,
 ) -> usize
     requires { ⌜ Countable count «line_count» place deleted inserted ⌝ }
-    requires { ⌜ (length (now starts) ≡ 256) × (length (now lines) ≡ 768) ⌝ }
-    ensures few { λ n. ⌜ n ≤ 256 ⌝ }
+    requires { ⌜ (length (now starts) ≡ mostRecords) × (length (now lines) ≡ linesLength) ⌝ }
+    ensures few { λ n. ⌜ n ≤ mostRecords ⌝ }
     ensures report { λ n. ⌜ Reported (now (starts .entry)) count (now (lines .entry)) «line_count»
         place deleted inserted n ⌝ }
 {
@@ -61,7 +63,7 @@ pub(crate) fn lines_redone(
     let mut j = f;
     let mut k = 1;
     while j < line_count {
-        let first = lines[3 * j] as usize;
+        let first = lines[LINE_WORDS * j] as usize;
         if place + inserted <= first {
             let was = first - inserted + deleted;
             k = line_from(starts, count, k, was);

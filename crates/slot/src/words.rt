@@ -1,11 +1,19 @@
 // Words cleared and copied, a record list spliced, and every word of a slot written.
 ghost use mathlib.Core.Path.{_≡_};
-ghost use mathlib.Core.List.{_++_};
+ghost use mathlib.Core.List.{[], _∷_, _++_};
 ghost use Prim.Native.Nat.{_+_, _-_, _≤_};
-ghost use lib.ListN.{length, drop};
+ghost use lib.ListN.{length};
 ghost use lib.Seq.{paste};
 ghost use Rattle.rules.specs.Basics.{zeros};
+ghost use Rattle.rules.specs.Layout.{headLength, recordsLength, slotLength, recordCountAt};
 ghost use Rattle.slot.specs.Slot.{headOf, splicedInto};
+use rules::layout::LINE_COUNT;
+use rules::layout::LINES;
+use rules::layout::LINES_WORDS;
+use rules::layout::PLACES;
+use rules::layout::PLACES_WORDS;
+use rules::layout::RECORD_COUNT;
+use rules::layout::RECORDS;
 
 // Writes 0 to every word.
 pub fn clear(words: &mut [u32])
@@ -51,11 +59,12 @@ pub(crate) fn splice(
 
 // Writes the head of a slot but for the words that an edit keeps: clinic, measure, indent and in use.
 fn put_head(words: &mut [u32], count: u32, lines: u32)
-    requires { ⌜ 8 ≤ length (now words) ⌝ }
-    ensures { λ _. ⌜ now (words .exit) ≡ headOf (now (words .entry)) count lines ++ drop 8 (now (words .entry)) ⌝ }
+    requires { ⌜ headLength ≤ length (now words) ⌝ }
+    ensures { λ _. ⌜ now (words .exit)
+        ≡ paste (paste (now (words .entry)) recordCountAt (count ∷ lines ∷ []) 2) 6 (0 ∷ 0 ∷ []) 2 ⌝ }
 {
-    words[3] = count;
-    words[4] = lines;
+    words[RECORD_COUNT] = count;
+    words[LINE_COUNT] = lines;
     words[6] = 0;
     words[7] = 0;
 }
@@ -66,15 +75,15 @@ pub(crate) fn write_slot(
     count: u32,
     line_count: u32,
     list: &[u32],
-    places: &[u32; 512],
-    lines: &[u32; 768],
+    places: &[u32; PLACES_WORDS],
+    lines: &[u32; LINES_WORDS],
 )
-    requires { ⌜ (length (now words) ≡ 2824) × (length (now list) ≡ 1536) ⌝ }
+    requires { ⌜ (length (now words) ≡ slotLength) × (length (now list) ≡ recordsLength) ⌝ }
     ensures { λ _. ⌜ now (words .exit) ≡ headOf (now (words .entry)) count «line_count»
         ++ (now (list .entry) ++ (now (places .entry) ++ now (lines .entry))) ⌝ }
 {
     put_head(words, count, line_count);
-    copy_in(words, 8, list);
-    copy_in(words, 1544, places);
-    copy_in(words, 2056, lines);
+    copy_in(words, RECORDS, list);
+    copy_in(words, PLACES, places);
+    copy_in(words, LINES, lines);
 }

@@ -3,11 +3,8 @@ use borrow.Author.Needs.{needs}
 use Rattle.gelumbrio.proofs.gelumbrio_class_of.Statement.{statement}
 use Rattle.gelumbrio.proofs.gelumbrio_class_of.Tie as tie
 
-class-of-requires : tie.Need-class-of-requires
-class-of-requires c κs = search needs
-
 returns : tie.Need-returns
 returns c = c .class-of .ensures
 
 pub gelumbrio-class-of-spec : {M : Type 1} → statement M
-gelumbrio-class-of-spec = tie.close (tie.spec class-of-requires returns)
+gelumbrio-class-of-spec = tie.close (tie.spec (λ c κs. search needs) returns)

@@ -3,14 +3,8 @@ use borrow.Author.Needs.{needs}
 use Rattle.gelumbrio.proofs.gelumbrio_give_back.Statement.{statement}
 use Rattle.gelumbrio.proofs.gelumbrio_give_back.Tie as tie
 
-give-back-requires : tie.Need-give-back-requires
-give-back-requires c κs = search needs
-
-same-length : tie.Need-same-length
-same-length c = search needs
-
 returns : tie.Need-returns
 returns c = c .before .before .give-back .ensures
 
 pub gelumbrio-give-back-spec : {M : Type 1} → statement M
-gelumbrio-give-back-spec = tie.close (tie.spec give-back-requires same-length returns)
+gelumbrio-give-back-spec = tie.close (tie.spec (λ c κs. search needs) (λ c. search needs) returns)

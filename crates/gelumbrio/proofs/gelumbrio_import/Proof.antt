@@ -3,14 +3,8 @@ use borrow.Author.Needs.{needs}
 use Rattle.gelumbrio.proofs.gelumbrio_import.Statement.{statement}
 use Rattle.gelumbrio.proofs.gelumbrio_import.Tie as tie
 
-import-requires : tie.Need-import-requires
-import-requires c κs = search needs
-
-same-length : tie.Need-same-length
-same-length c = search needs
-
 returns : tie.Need-returns
 returns c = c .before .before .import .ensures
 
 pub gelumbrio-import-spec : {M : Type 1} → statement M
-gelumbrio-import-spec = tie.close (tie.spec import-requires same-length returns)
+gelumbrio-import-spec = tie.close (tie.spec (λ c κs. search needs) (λ c. search needs) returns)

@@ -5,9 +5,6 @@ use borrow.Author.Needs.{needs}
 use Rattle.gelumbrio.proofs.gelumbrio_in_list.Statement.{statement}
 use Rattle.gelumbrio.proofs.gelumbrio_in_list.Tie as tie
 
-in-list-requires : tie.Need-in-list-requires
-in-list-requires c κs = search needs
-
 returns : tie.Need-returns
 returns c = ap (λ t. cond t 1 0) (sym (c .if1 .taken) ∙ c .before .in-list .ensures)
 
@@ -15,4 +12,4 @@ returns-2 : tie.Need-returns-2
 returns-2 c = ap (λ t. cond t 1 0) (sym (c .if1 .left) ∙ c .before .in-list .ensures)
 
 pub gelumbrio-in-list-spec : {M : Type 1} → statement M
-gelumbrio-in-list-spec = tie.close (tie.spec in-list-requires returns returns-2)
+gelumbrio-in-list-spec = tie.close (tie.spec (λ c κs. search needs) returns returns-2)

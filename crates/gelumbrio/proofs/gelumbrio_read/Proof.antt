@@ -4,11 +4,8 @@ use borrow.Author.Needs.{needs}
 use Rattle.gelumbrio.proofs.gelumbrio_read.Statement.{statement}
 use Rattle.gelumbrio.proofs.gelumbrio_read.Tie as tie
 
-read-part-requires : tie.Need-read-part-requires
-read-part-requires c κs = search needs
-
 returns : tie.Need-returns
 returns c = (c .read-part .ensures .0, refl)
 
 pub gelumbrio-read-spec : {M : Type 1} → statement M
-gelumbrio-read-spec = tie.close (tie.spec read-part-requires returns)
+gelumbrio-read-spec = tie.close (tie.spec (λ c κs. search needs) returns)

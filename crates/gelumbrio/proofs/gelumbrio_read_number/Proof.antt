@@ -4,11 +4,8 @@ use borrow.Author.Needs.{needs}
 use Rattle.gelumbrio.proofs.gelumbrio_read_number.Statement.{statement}
 use Rattle.gelumbrio.proofs.gelumbrio_read_number.Tie as tie
 
-read-number-requires : tie.Need-read-number-requires
-read-number-requires c κs = search needs
-
 returns : tie.Need-returns
 returns c = (c .read-number .ensures .0, refl)
 
 pub gelumbrio-read-number-spec : {M : Type 1} → statement M
-gelumbrio-read-number-spec = tie.close (tie.spec read-number-requires returns)
+gelumbrio-read-number-spec = tie.close (tie.spec (λ c κs. search needs) returns)

@@ -3,11 +3,8 @@ use borrow.Author.Needs.{needs}
 use Rattle.gelumbrio.proofs.gelumbrio_ruby_place.Statement.{statement}
 use Rattle.gelumbrio.proofs.gelumbrio_ruby_place.Tie as tie
 
-ruby-place-requires : tie.Need-ruby-place-requires
-ruby-place-requires c κs = search needs
-
 returns : tie.Need-returns
 returns c = c .ruby-place .ensures
 
 pub gelumbrio-ruby-place-spec : {M : Type 1} → statement M
-gelumbrio-ruby-place-spec = tie.close (tie.spec ruby-place-requires returns)
+gelumbrio-ruby-place-spec = tie.close (tie.spec (λ c κs. search needs) returns)

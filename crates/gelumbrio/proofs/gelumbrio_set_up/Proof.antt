@@ -3,14 +3,8 @@ use borrow.Author.Needs.{needs}
 use Rattle.gelumbrio.proofs.gelumbrio_set_up.Statement.{statement}
 use Rattle.gelumbrio.proofs.gelumbrio_set_up.Tie as tie
 
-set-up-requires : tie.Need-set-up-requires
-set-up-requires c κs = search needs
-
-same-length : tie.Need-same-length
-same-length c = search needs
-
 returns : tie.Need-returns
 returns c = c .before .before .set-up .ensures
 
 pub gelumbrio-set-up-spec : {M : Type 1} → statement M
-gelumbrio-set-up-spec = tie.close (tie.spec set-up-requires same-length returns)
+gelumbrio-set-up-spec = tie.close (tie.spec (λ c κs. search needs) (λ c. search needs) returns)

@@ -3,14 +3,8 @@ use borrow.Author.Needs.{needs}
 use Rattle.gelumbrio.proofs.gelumbrio_take.Statement.{statement}
 use Rattle.gelumbrio.proofs.gelumbrio_take.Tie as tie
 
-take-requires : tie.Need-take-requires
-take-requires c κs = search needs
-
-same-length : tie.Need-same-length
-same-length c = search needs
-
 returns : tie.Need-returns
 returns c = c .before .before .take .ensures
 
 pub gelumbrio-take-spec : {M : Type 1} → statement M
-gelumbrio-take-spec = tie.close (tie.spec take-requires same-length returns)
+gelumbrio-take-spec = tie.close (tie.spec (λ c κs. search needs) (λ c. search needs) returns)

@@ -1,7 +1,7 @@
 -- `compose::adjustment::line_rates` meets its contract. Assumes nothing.
 use mathlib.Core.Path.{sym}
 use borrow.Author.Needs.{needs}
-use Rattle.rules.proofs.Facts.{true-false}
+use Rattle.rules.proofs.Decisions.{true-false}
 use Rattle.compose.proofs.adjustment.line_rates.Statement.{statement}
 use Rattle.compose.proofs.adjustment.line_rates.Tie as tie
 

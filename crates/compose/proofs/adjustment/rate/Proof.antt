@@ -1,7 +1,7 @@
 -- `compose::adjustment::rate` meets its contract. Assumes nothing.
 use native.Mathlib.Nat.{zero-mul, zero-div, div-zero}
 use borrow.Author.Needs.{needs}
-use Rattle.compose.specs.Adjusted.{rateOf}
+use Rattle.compose.specs.Rates.{rateOf}
 use Rattle.compose.proofs.Rates.{rate-fits}
 use Rattle.compose.proofs.adjustment.rate.Statement.{statement}
 use Rattle.compose.proofs.adjustment.rate.Tie as tie

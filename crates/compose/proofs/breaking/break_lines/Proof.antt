@@ -4,19 +4,16 @@ use Prim.Native.Nat.{_-_}
 use native.Mathlib.Omega.{arith}
 use borrow.Author.Needs.{needs}
 use Rattle.compose.proofs.LinesLeft.{left-line}
-use Rattle.compose.proofs.LinesDue.{Due, due-start, due-more, due-stop, due-end}
+use Rattle.compose.proofs.BreakLines.{Due, due-start, due-more, due-stop, due-end}
 use Rattle.compose.proofs.breaking.break_lines.Statement.{statement}
 use Rattle.compose.proofs.breaking.break_lines.Tie as tie
 
 abbrev Inv-loop : tie.InvT-loop
 Inv-loop ws advances gaps offsets m x n out₀ lines₀ i₀ start₀ out lines i start =
-    Due ws advances gaps offsets m x out lines i start
+    Due ws advances gaps offsets i lines m x start out
 
 abbrev μ-loop : tie.MeasureT-loop
 μ-loop ws advances gaps offsets m x n out₀ lines₀ i₀ start₀ out lines i start = n - i
-
-loop-holds : tie.Need-loop-holds Inv-loop μ-loop
-loop-holds c = due-start (c .before .before .pre) (c .out .given .0 .1)
 
 longest-line-requires : tie.Need-longest-line-requires Inv-loop μ-loop
 longest-line-requires c κs = left-line (c .before .loop .inv .left) (c .loop-test .taken)
@@ -36,16 +33,13 @@ loop-again c =
     let k = c .before .before in
     due-more (k .before .before .loop .inv) (k .longest-line .ensures .taken (c .if1 .left))
 
-returns-2 : tie.Need-returns-2 Inv-loop μ-loop
-returns-2 c = due-end (c .before .loop .inv) (c .loop-test .left)
-
 pub break-lines-spec : {M : Type 1} → statement M
 break-lines-spec =
     tie.close
     (tie.spec
     Inv-loop
     μ-loop
-    loop-holds
+    (λ c. search (needs, due-start))
     (λ c. search needs)
     (λ c. search needs)
     (λ c. search needs)
@@ -54,4 +48,4 @@ break-lines-spec =
     (λ c. search needs)
     loop-less
     loop-again
-    returns-2)
+    (λ c. search (needs, due-end)))

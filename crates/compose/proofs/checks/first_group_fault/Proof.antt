@@ -34,6 +34,7 @@ first-group-fault-spec =
     (λ c κs. search needs)
     (λ c. search (needs, grouped-unlike))
     (λ c. search needs)
+    (λ c. search needs)
     (λ c. search (needs, grouped-many))
     (λ c. search needs)
     (λ c. search needs)

@@ -3,7 +3,7 @@ use mathlib.Core.Path.{sym, _∙_}
 use borrow.Author.Needs.{needs}
 use borrow.Author.Tests.{not-true, not-false}
 use Rattle.rules.specs.Listed.{isListed}
-use Rattle.rules.proofs.Facts.{true-false}
+use Rattle.rules.proofs.Decisions.{true-false}
 use Rattle.compose.proofs.checks.is_fine.Statement.{statement}
 use Rattle.compose.proofs.checks.is_fine.Tie as tie
 

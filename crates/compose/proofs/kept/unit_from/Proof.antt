@@ -1,7 +1,7 @@
 -- `compose::kept::unit_from` meets its contract. Assumes nothing.
 use Prim.Native.Nat.{_-_}
 use borrow.Author.Needs.{needs}
-use Rattle.compose.proofs.RowsMoved.{InGroup, from-start, from-end, group-more, group-ends}
+use Rattle.compose.proofs.KeepMetrics.{InGroup, from-start, from-end, group-more, group-ends}
 use Rattle.compose.proofs.kept.unit_from.Statement.{statement}
 use Rattle.compose.proofs.kept.unit_from.Tie as tie
 

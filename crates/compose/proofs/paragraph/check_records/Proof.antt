@@ -1,6 +1,6 @@
 -- `compose::paragraph::check_records` meets its contract. Assumes nothing.
 use borrow.Author.Needs.{needs}
-use Rattle.compose.proofs.Answers.{scanned-rows, scanned-fault}
+use Rattle.compose.proofs.Answers.{scanned-metrics, scanned-fault}
 use Rattle.compose.proofs.paragraph.check_records.Statement.{statement}
 use Rattle.compose.proofs.paragraph.check_records.Tie as tie
 
@@ -10,6 +10,6 @@ check-records-spec =
     (tie.spec
     (λ c κs. search needs)
     (λ c κs. search needs)
-    (λ c. search (needs, scanned-rows))
+    (λ c. search (needs, scanned-metrics))
     (λ c κs. search needs)
     (λ c. search (needs, scanned-fault)))

@@ -5,10 +5,14 @@ use Rattle.compose.proofs.Answers.{composed-not, composed-10, composed-
 use Rattle.compose.proofs.paragraph.compose.Statement.{statement}
 use Rattle.compose.proofs.paragraph.compose.Tie as tie
 
+-- what is lent for the places and lines, and where the records are checked
+abbrev lent : tie.After-compose-lines-arg5 → tie.After-compose-lines-arg
+lent c = c .before .before .before .before
+
 compose-lines-requires : tie.Need-compose-lines-requires
 compose-lines-requires c κs =
-    let passed = c .before .before .before .before .before in
-    let r = passed .before .before .check-records .ensures .rows (passed .if1 .left) in
+    let passed = lent c .before in
+    let r = passed .before .before .check-records .ensures .metrics (passed .if1 .left) in
     search needs
 
 pub compose-spec : {M : Type 1} → statement M

@@ -1,17 +1,17 @@
--- `compose::places::place_line` meets its contract: at each turn the places written, with those of the rows left, are
--- the line's. Assumes nothing.
+-- `compose::places::place_line` meets its contract: at each turn the places written, with those of the records left,
+-- are the line's. Assumes nothing.
 use Prim.Native.Nat.{_-_}
 use borrow.Author.Needs.{needs}
-use Rattle.rules.specs.Values.{gapFrom}
-use Rattle.compose.specs.Adjusted.{amountsFrom}
-use Rattle.compose.proofs.LinePlaces.{RowsToPlace, rows-start, rows-more, rows-done, turn-length}
-use Rattle.compose.proofs.LinePlaces.{turn-placeable, turn-place, turn-room, turn-solid, turn-sums}
+use Rattle.rules.specs.Structs.{gapFrom}
+use Rattle.compose.specs.Rates.{amountsFrom}
+use Rattle.compose.proofs.PlaceLine.{MetricsToPlace, metrics-start, metrics-more, metrics-done, turn-length}
+use Rattle.compose.proofs.PlaceLine.{turn-placeable, turn-place, turn-room, turn-solid, turn-sums}
 use Rattle.compose.proofs.places.place_line.Statement.{statement}
 use Rattle.compose.proofs.places.place_line.Tie as tie
 
 abbrev Inv-loop : tie.InvT-loop
 Inv-loop ws advances gaps offsets i j line x rates e c places₀ solid₀ sums₀ k₀ places solid sums k =
-    RowsToPlace ws advances gaps offsets places₀ i j line x (amountsFrom e) (gapFrom c) places k solid sums
+    MetricsToPlace ws advances gaps offsets i j k line x (amountsFrom e) (gapFrom c) solid sums places₀ places
 
 abbrev μ-loop : tie.MeasureT-loop
 μ-loop ws advances gaps offsets i j line x rates e c places₀ solid₀ sums₀ k₀ places solid sums k = j - k
@@ -22,7 +22,7 @@ place-line-spec =
     (tie.spec
     Inv-loop
     μ-loop
-    (λ c. search (needs, rows-start))
+    (λ c. search (needs, metrics-start))
     (λ c κs. search (needs, turn-placeable))
     (λ c. search needs)
     (λ c. search needs)
@@ -36,6 +36,6 @@ place-line-spec =
     (λ c κs. search (needs, turn-sums))
     (λ c. search needs)
     (λ c. search needs)
-    (λ c. search (needs, rows-more))
+    (λ c. search (needs, metrics-more))
     (λ c. search (needs, turn-length))
-    (λ c. search (needs, rows-done)))
+    (λ c. search (needs, metrics-done)))

@@ -1,4 +1,4 @@
--- `compose::scan::fill_lone` meets its contract, by the laws of RowScan.antt. Assumes nothing.
+-- `compose::scan::fill_lone` meets its contract, by the laws of FillMetrics.antt. Assumes nothing.
 use mathlib.Core.Path.{sym, _∙_}
 use Prim.Native.Nat.{_-_}
 use native.Mathlib.Omega.{arith}
@@ -6,17 +6,20 @@ use mathlib.Core.Logic.{inl, inr}
 use borrow.Author.Needs.{needs}
 use borrow.Author.Tests.{not-false}
 use Rattle.rules.specs.Listed.{isListed}
-use Rattle.rules.specs.Values.{recordOf}
-use Rattle.rules.proofs.Limits.{record-bounds, asked}
+use Rattle.rules.specs.Structs.{recordOf}
+use Rattle.rules.proofs.RecordLimits.{record-bounds, asked}
 use Rattle.compose.specs.Scan.{Fine}
-use Rattle.compose.proofs.UnitWalk.{known-fine}
-use Rattle.compose.proofs.RowScan.{filled-none, lone-due, lone-filled}
+use Rattle.compose.proofs.UnitBefore.{known-fine}
+use Rattle.compose.proofs.FillMetrics.{filled-none, lone-due, lone-filled}
 use Rattle.compose.proofs.scan.fill_lone.Statement.{statement}
 use Rattle.compose.proofs.scan.fill_lone.Tie as tie
 
--- where the function starts, and where the record was read
+-- the words lent, where the function starts, and where the record was read
+abbrev lent : tie.After-record-at → tie.After-shared-slice-known
+lent c = c .before .before .before .before
+
 abbrev entry : tie.After-record-at → tie.Start
-entry c = c .before .before .before .before .before
+entry c = lent c .before
 
 abbrev read : tie.Else1 → tie.After-record-at
 read c = c .before .before
@@ -42,25 +45,29 @@ fine c =
           (known-fine (p .0 .filled .scanning) (entry a .args .i - 1) (omega arith) (omega arith))
     ]
 
--- the record met, from where its row is to be written; and the row written
-abbrev joint : tie.After-put-row-arg3 → tie.After-joint-after
+-- the record met, from where its metrics are to be written; and the metrics written
+abbrev met : tie.After-joint-after → tie.Joined2
+met c = c .before .before
+
+abbrev joint : tie.After-put-metrics-arg → tie.After-joint-after
 joint c = c .before .before .before
 
-abbrev met : tie.After-put-row-arg3 → tie.Joined2
-met c = joint c .before .before
+abbrev given-back : tie.After-slice-known6 → tie.After-slice-known4
+given-back c = c .before .before .before .before
 
-abbrev written : tie.After-slice-known6 → tie.After-put-row
-written c = c .before .before .before .before .before .before
+abbrev written : tie.After-slice-known6 → tie.After-put-metrics
+written c = given-back c .before .before
 
 returns-4 : tie.Need-returns-4
 returns-4 c =
     let w = written c in
     let m = joint (w .before .before .before) in
-    let j = m .before .before in
+    let j = met m in
     let a = read (j .before) in
     let p = entry a .pre .0 in
-    lone-filled (p .0) (p .1) (a .record-at .ensures) (fine j) (j .before .if1 .left) (m .before .row-of .ensures .0)
-    (m .joint-after .ensures) (record { words = w .put-row .ensures })
+    lone-filled (p .0) (p .1) (a .record-at .ensures) (fine j) (j .before .if1 .left)
+    (m .before .class-index .ensures .0)
+    (m .joint-after .ensures) (record { words = w .put-metrics .ensures })
 
 pub fill-lone-spec : {M : Type 1} → statement M
 fill-lone-spec =
@@ -77,7 +84,7 @@ fill-lone-spec =
     (λ c κs. let f = fine (c .before) in (search (needs, lone-due), search needs))
     (λ c. let b = record-bounds _ (fine (met (c .before)) .sound) in search needs)
     (λ c. let b = record-bounds _ (fine (met (c .before .before)) .sound) in search needs)
-    (λ c κs. let p = entry (read (met (c .before .before) .before)) .pre .0 in search needs)
+    (λ c κs. let p = entry (read (met (joint (c .before .before)) .before)) .pre .0 in search needs)
     (λ c. search needs)
     (λ c. search needs)
     (λ c. search needs)

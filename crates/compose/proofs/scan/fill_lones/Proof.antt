@@ -2,16 +2,16 @@
 use native.Mathlib.Omega.{arith}
 use borrow.Author.Needs.{needs}
 use Rattle.compose.specs.Scan.{Filled}
-use Rattle.compose.proofs.RowScan.{filled-none, filled-more}
+use Rattle.compose.proofs.FillMetrics.{filled-none, filled-more}
 use Rattle.compose.proofs.scan.fill_lones.Statement.{statement}
 use Rattle.compose.proofs.scan.fill_lones.Tie as tie
 
 abbrev Inv-loop : tie.InvT-loop
-Inv-loop ws start stop end next classes spacing words ds₀ gs₀ os₀ i₀ column₀ ds gs os i column =
-    Filled ws start end ds₀ gs₀ os₀ ds gs os i column
+Inv-loop ws known stop end next classes spacing words ds₀ gs₀ os₀ i₀ at₀ ds gs os i at =
+    Filled ws known end ds₀ gs₀ os₀ ds gs os i at
 
 abbrev μ-loop : tie.MeasureT-loop
-μ-loop ws start stop end next classes spacing words ds₀ gs₀ os₀ i₀ column₀ ds gs os i column = i
+μ-loop ws known stop end next classes spacing words ds₀ gs₀ os₀ i₀ at₀ ds gs os i at = i
 
 pub fill-lones-spec : {M : Type 1} → statement M
 fill-lones-spec =

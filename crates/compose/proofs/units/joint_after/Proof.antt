@@ -1,8 +1,8 @@
 -- `compose::units::joint_after` meets its contract. Assumes nothing.
 use mathlib.Core.Path.{ap, sym, _∙_}
 use borrow.Author.Needs.{needs}
-use Rattle.rules.specs.Records.{rowOf}
-use Rattle.compose.proofs.Joints.{joint-none, joint-found}
+use Rattle.rules.specs.Records.{classIndex}
+use Rattle.compose.proofs.JointAfter.{joint-none, joint-found}
 use Rattle.compose.proofs.units.joint_after.Statement.{statement}
 use Rattle.compose.proofs.units.joint_after.Tie as tie
 
@@ -14,9 +14,9 @@ joint-between-requires c κs =
     let h = t .if1 .taken in
     let l = c .before .side-at .ensures in
     let r = c .side-at2 .ensures in (
-      (rw l (d .left), rw r (d .right h)),
+      (rw l (d .left-side), rw r (d .right-side h)),
       (
-        (d .row-is ∙ ap (λ s. rowOf (s .class)) (sym l), d .column-is h ∙ ap (λ s. rowOf (s .class)) (sym r)),
+        (d .left-is ∙ ap (λ s. classIndex (s .class)) (sym l), d .right-is h ∙ ap (λ s. classIndex (s .class)) (sym r)),
         p .1,
       ),
     )

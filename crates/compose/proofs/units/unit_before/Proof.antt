@@ -5,19 +5,19 @@ use mathlib.Core.Logic.{inl, inr}
 use denote.Ref.{now}
 use borrow.Author.Needs.{needs}
 use borrow.Author.Tests.{not-true, not-false}
-use Rattle.rules.specs.Values.{recordOf}
-use Rattle.rules.proofs.Limits.{record-bounds}
+use Rattle.rules.specs.Structs.{recordOf}
+use Rattle.rules.proofs.RecordLimits.{record-bounds}
 use Rattle.compose.specs.Scan.{Fine}
-use Rattle.compose.proofs.UnitWalk.{UnitWalk, walk-start, Walked, known-fine, walk-again}
-use Rattle.compose.proofs.UnitWalk.{unit-unsound, unit-found, unit-apart, unit-unlike, unit-many}
+use Rattle.compose.proofs.UnitBefore.{UnitWalk, walk-start, Walked, known-fine, walk-again}
+use Rattle.compose.proofs.UnitBefore.{unit-unsound, unit-found, unit-apart, unit-unlike, unit-many}
 use Rattle.compose.proofs.units.unit_before.Statement.{statement}
 use Rattle.compose.proofs.units.unit_before.Tie as tie
 
 abbrev Inv-loop : tie.InvT-loop
-Inv-loop ws i start classes none first₀ base₀ first base = UnitWalk ws i first base
+Inv-loop ws known i classes none first₀ base₀ first base = UnitWalk ws first i base
 
 abbrev μ-loop : tie.MeasureT-loop
-μ-loop ws i start classes none first₀ base₀ first base = first
+μ-loop ws known i classes none first₀ base₀ first base = first
 
 -- where the function starts, and where the record before `first` is read
 abbrev start : tie.After-record-at Inv-loop μ-loop → tie.Start Inv-loop μ-loop
@@ -45,7 +45,7 @@ fine c =
 
 -- and belongs to the unit
 walked : (c : tie.Joined1 Inv-loop μ-loop) → let a = c .before in let l = a .before .loop in
-    Walked (now (start a .args .ws)) (start a .args .i) (l .first - 1) (l .base + a .record-at .result .advance)
+    Walked (now (start a .args .ws)) (l .first - 1) (start a .args .i) (l .base + a .record-at .result .advance)
 walked c =
     let a = c .before in
     let l = a .before .loop in

@@ -3,8 +3,5 @@ use mathlib.Core.Path.{refl}
 use Rattle.lists.proofs.entries.is_common.Statement.{statement}
 use Rattle.lists.proofs.entries.is_common.Tie as tie
 
-returns : tie.Need-returns
-returns c = refl
-
 pub is-common-spec : {M : Type 1} → statement M
-is-common-spec = tie.close (tie.spec returns)
+is-common-spec = tie.close (tie.spec (λ c. refl))

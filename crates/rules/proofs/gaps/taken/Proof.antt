@@ -7,9 +7,13 @@ use denote.Ref.{now}
 use borrow.Author.Needs.{needs}
 use Rattle.rules.specs.Spacing.{named}
 use Rattle.rules.specs.Packed.{leftWord, rightWord}
-use Rattle.rules.proofs.Entries.{entry-law, words-at, solid-taken}
+use Rattle.rules.proofs.SpacingEntries.{entry-law, words-at, solid-taken}
 use Rattle.rules.proofs.gaps.taken.Statement.{statement}
 use Rattle.rules.proofs.gaps.taken.Tie as tie
+
+-- the function's entry, from the first product
+abbrev start : tie.After-times → tie.Start
+start c = c .before .before .before
 
 -- the words of the entry
 row : (s : tie.Start) →
@@ -27,14 +31,15 @@ times-requires c κs =
 
 times-requires-2 : tie.Need-times-requires-2
 times-requires-2 c κs =
-    let s = c .before .before .before .before in
+    let s = start (c .before) in
     (s .pre .2, rw (row s) (entry-law (s .args .entry) (s .pre .0) .small .1))
 
 returns-2 : tie.Need-returns-2
 returns-2 c =
-    let f = c .before .before .times .ensures in
+    let first = c .before .before in
+    let f = first .times .ensures in
     let g = c .times2 .ensures in
-    let s = c .before .before .before .before .before in
+    let s = start first in
     record { word = rw (f .0, g .0, row s); small = omega (arith, f .1, g .1) }
 
 pub taken-spec : {M : Type 1} → statement M

@@ -1,5 +1,4 @@
 -- `rules::gaps::times` meets its contract. Assumes nothing.
-use mathlib.Core.Path.{refl}
 use Prim.Native.Nat.{_*_, _/_, _≤_}
 use native.Mathlib.Omega.{arith}
 use native.Mathlib.Nat.{mul-le-mul}
@@ -13,8 +12,5 @@ small c = mul-le-mul {n₂ = 500} (omega (arith, c .pre .0)) (c .pre .1)
 mul-result : tie.Need-mul-result
 mul-result c = record { fits = omega (arith, small c) }
 
-returns : tie.Need-returns
-returns c = (refl, small c)
-
 pub times-spec : {M : Type 1} → statement M
-times-spec = tie.close (tie.spec (λ c. search needs) mul-result returns)
+times-spec = tie.close (tie.spec (λ c. search needs) mul-result (λ c. search (needs, small)))

@@ -18,11 +18,11 @@ add-result c =
     let a = c .before .before .before .args in
     let b = c .before .before .before .pre in
     let small = rubyTotal-small (a .ruby) (a .size) (b .characters) (b .size) in
-    omega (arith, shift-small (c .before .over .result) (a .n) (a .k) (b .item))
+    omega (arith, shift-small (c .before .excess .result) (a .n) (a .k) (b .item))
 
 returns : tie.Need-returns
 unfolding baseOffset
-returns c = rw (c .shift .ensures, c .before .over .ensures, c .before .before .ruby-total .ensures)
+returns c = rw (c .shift .ensures, c .before .excess .ensures, c .before .before .ruby-total .ensures)
 
 pub base-offset-spec : {M : Type 1} → statement M
 base-offset-spec =

@@ -7,8 +7,15 @@ use Rattle.rules.proofs.Bounds.{rubyTotal-small, shift-small, RubyBound
 use Rattle.rules.proofs.groups.ruby_place.Statement.{statement}
 use Rattle.rules.proofs.groups.ruby_place.Tie as tie
 
+-- where the numbers are within their limits, and the function's entry, from later places
+abbrev within : tie.After-excess → tie.Then1
+within c = c .before .before
+
+abbrev start : tie.Then1 → tie.Start
+start c = c .before .before
+
 bounds : (c : tie.Then1) →
-    let a = c .before .before .args in
+    let a = start c .args in
     RubyBounds (a .base-advance) (a .ruby-count) (a .size) (a .k)
 bounds c = rubyOk-bounds _ _ _ _ (sym (c .before .ruby-ok .ensures) ∙ c .if1 .taken)
 
@@ -17,30 +24,30 @@ ruby-total-requires c κs = (bounds c .characters, bounds c .size)
 
 mul-t9 : tie.Need-mul-t9
 mul-t9 c =
-    let a = c .before .before .before .before .args in
-    let b = bounds (c .before .before) in
+    let a = start (within c) .args in
+    let b = bounds (within c) in
     omega (arith, rubyTotal-small (a .k) (a .size) (omega arith) (b .size))
 
 shift-requires : tie.Need-shift-requires
 shift-requires c κs =
-    let b = bounds (c .before .before) in
+    let b = bounds (within c) in
     search needs
 
 add-t11 : tie.Need-add-t11
 add-t11 c =
-    let a = c .before .before .before .before .before .args in
-    let b = bounds (c .before .before .before) in
+    let a = start (within (c .before)) .args in
+    let b = bounds (within (c .before)) in
     let solid = rubyTotal-small (a .k) (a .size) (omega arith) (b .size) in
-    omega (arith, shift-small (c .before .over .result) (a .ruby-count) (a .k) (b .character))
+    omega (arith, shift-small (c .before .excess .result) (a .ruby-count) (a .k) (b .character))
 
 returns : tie.Need-returns
 unfolding rubyPlace rubyOffset
 returns c =
     rw (
-      ← c .before .before .before .before .ruby-ok .ensures,
-      c .before .before .before .if1 .taken,
+      ← within (c .before) .before .ruby-ok .ensures,
+      within (c .before) .if1 .taken,
       c .shift .ensures,
-      c .before .over .ensures,
+      c .before .excess .ensures,
       c .before .before .ruby-total .ensures,
     )
 

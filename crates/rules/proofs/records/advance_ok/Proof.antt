@@ -3,7 +3,7 @@ use mathlib.Core.Path.{_≡_}
 use mathlib.Core.Logic.{⊎-elim}
 use borrow.Author.Needs.{needs}
 use borrow.Author.Tests.{eq-eqb, ne-eqb}
-use Rattle.rules.proofs.Rows.{mostOf, leastOf, fits-between}
+use Rattle.rules.proofs.AdvanceKinds.{mostOf, leastOf, fits-between}
 use Rattle.rules.proofs.records.advance_ok.Statement.{statement}
 use Rattle.rules.proofs.records.advance_ok.Tie as tie
 
@@ -19,13 +19,8 @@ least-is : (c : tie.Joined3) → c .if3 .least ≡ leastOf (c .before .before .a
 least-is c =
     ⊎-elim (λ w. rw (w .0 .taken) (w .1)) (λ w. rw (w .0 .left) (w .1)) (c .if3 .came)
 
-returns : tie.Need-returns
-returns c =
-    let a = c .before .before .args in
-    rw (least-is c, most-is (c .before)) (fits-between (a .kind) (a .size) (a .advance))
-
 pub advance-ok-spec : {M : Type 1} → statement M
 advance-ok-spec =
     tie.close
     (tie.spec (λ c. search needs) (λ c. search needs) (λ c. search needs) (λ c. search needs) (λ c. search needs)
-    (λ c. search needs) returns)
+    (λ c. search needs) (λ c. search (needs, fits-between, most-is, least-is)))

@@ -3,7 +3,7 @@ use mathlib.Core.Path.{sym, _∙_}
 use borrow.Author.Needs.{needs}
 use borrow.Author.Tests.{not-true, not-false}
 use Rattle.rules.specs.Records.{advanceOk, groupOk, recOk}
-use Rattle.rules.specs.Values.{recordOf}
+use Rattle.rules.specs.Structs.{recordOf}
 use Rattle.rules.proofs.Listed.{listed-code}
 use Rattle.rules.proofs.records.plain_ok.Statement.{statement}
 use Rattle.rules.proofs.records.plain_ok.Tie as tie

@@ -1,6 +1,6 @@
 -- `sheet::importing::import` meets its contract. Assumes nothing.
 use borrow.Author.Needs.{needs}
-use Rattle.sheet.proofs.ReadTexts.{read-room, import-at-fault, import-in-words}
+use Rattle.sheet.proofs.ImportTexts.{read-room, import-at-fault, import-in-words}
 use Rattle.sheet.proofs.importing.import.Statement.{statement}
 use Rattle.sheet.proofs.importing.import.Tie as tie
 

@@ -1,11 +1,13 @@
 -- `sheet::taking::lowest_free` meets its contract. Assumes nothing.
 use mathlib.Core.Path.{sym, _∙_}
-use Prim.Native.Nat.{_-_}
+use Prim.Native.Nat.{ℕ, _-_}
+use mathlib.Core.List.{List}
 use mathlib.Core.Logic.{inl, inr}
 use borrow.Author.Needs.{needs}
 use denote.Ref.{now}
-use Rattle.sheet.proofs.Entry.{clinic-at, in-use-at}
-use Rattle.sheet.proofs.Granting.{Looked, looked-none, looked-more, looked-here, looked-all}
+use Rattle.sheet.proofs.Tables.{said}
+use Rattle.sheet.proofs.EntryLaws.{clinic-at, in-use-at}
+use Rattle.sheet.proofs.TakeLaws.{Looked, looked-none, looked-more, looked-here, looked-all}
 use Rattle.sheet.proofs.taking.lowest_free.Statement.{statement}
 use Rattle.sheet.proofs.taking.lowest_free.Tie as tie
 
@@ -15,21 +17,31 @@ Inv-loop sheet caller slots k₀ k = Looked sheet caller slots k
 abbrev μ-loop : tie.MeasureT-loop
 μ-loop sheet caller slots k₀ k = slots - k
 
+-- in the loop, where a slot's clinic was read; and the sheet there
+abbrev here : tie.After-shared-slice-known2 Inv-loop μ-loop → tie.In-loop Inv-loop μ-loop
+here c = c .before
+
+abbrev sheet : tie.In-loop Inv-loop μ-loop → List ℕ
+sheet c = now (c .before .before .before .args .sheet)
+
 loop-holds : tie.Need-loop-holds Inv-loop μ-loop
-loop-holds c = looked-none _ _ _ (c .pre .0)
+loop-holds c = looked-none _ _ _ (c .before .pre .0)
 
 returns : tie.Need-returns Inv-loop μ-loop
 returns c =
-    let l = c .before .before .before .before in
-    let w = now (l .before .before .args .sheet) in
+    let e = c .before in
+    let d = e .before .before in
+    let l = here (d .before) in
+    let w = sheet l in
     let k = l .before .loop .k in
-    looked-here _ _ _ (l .before .loop .inv) (l .loop-test .taken)
-    (sym (clinic-at w k ∙ c .before .before .if1 .taken), in-use-at w k ∙ c .if2 .taken)
+    said (c .says .ensures)
+    ∙ looked-here _ _ _ (l .before .loop .inv) (l .loop-test .taken)
+    (sym (clinic-at w k ∙ d .if1 .taken), in-use-at w k ∙ e .if2 .taken)
 
 loop-again : tie.Need-loop-again Inv-loop μ-loop
 loop-again c =
-    let l = c .before .before in
-    let w = now (l .before .before .args .sheet) in
+    let l = here (c .before) in
+    let w = sheet l in
     let k = l .before .loop .k in
     looked-more _ _ _ (l .before .loop .inv) (l .loop-test .taken)
     (λ f.
@@ -39,7 +51,9 @@ loop-again c =
     ])
 
 returns-2 : tie.Need-returns-2 Inv-loop μ-loop
-returns-2 c = looked-all _ _ _ (c .before .loop .inv) (c .loop-test .left)
+returns-2 c =
+    let l = c .before in
+    said (c .says2 .ensures) ∙ looked-all _ _ _ (l .before .loop .inv) (l .loop-test .left)
 
 pub lowest-free-spec : {M : Type 1} → statement M
 lowest-free-spec =
@@ -55,8 +69,10 @@ lowest-free-spec =
     (λ c. search needs)
     (λ c. search needs)
     (λ c. search needs)
+    (λ c κs. search needs)
     returns
     (λ c. search needs)
     (λ c. search needs)
     loop-again
+    (λ c κs. search needs)
     returns-2)

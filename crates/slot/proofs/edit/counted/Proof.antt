@@ -4,7 +4,8 @@ use native.Mathlib.Omega.{arith}
 use lib.ListN.{length, drop, length-drop}
 use denote.Ref.{now}
 use borrow.Author.Needs.{needs}
-use Rattle.slot.proofs.Pieces.{to-end}
+use Rattle.rules.specs.Layout.{linesAt, linesLength}
+use Rattle.slot.proofs.WordPieces.{to-end}
 use Rattle.slot.proofs.edit.counted.Statement.{statement}
 use Rattle.slot.proofs.edit.counted.Tie as tie
 
@@ -14,8 +15,8 @@ lines-redone-requires c κs =
     let d = c .before .before .before in
     let s = d .before .before .before in
     let w = now (s .args .words) in
-    let n : length (drop 2056 w) ≡ 768 = omega (arith, length-drop 2056 w, s .pre .0) in
-    (s .pre .1 (d .if1 .left), (search needs, rw (to-end w 2056) n))
+    let n : length (drop linesAt w) ≡ linesLength = omega (arith, length-drop linesAt w, s .pre .0) in
+    (s .pre .1 (d .if1 .left), (search needs, rw (to-end w linesAt) n))
 
 returns-2 : tie.Need-returns-2
 returns-2 c =
@@ -26,7 +27,7 @@ returns-2 c =
       same-number = sym (d .if1 .left);
       same-place = search needs;
       accepted = λ z.
-          rw (to-end w 2056) at (c .lines-redone .ensures .1);
+          rw (to-end w linesAt) at (c .lines-redone .ensures .1);
       refused = λ z. absurd (z (d .if1 .left));
     }
 

@@ -6,17 +6,18 @@ use Prim.Native.Nat.{_+_, _≤_}
 use native.Mathlib.Omega.{arith}
 use lib.ListN.{length}
 use denote.Ref.{now}
+use Rattle.rules.specs.Layout.{mostRecords}
 use Rattle.rules.specs.Basics.{zeros}
 use Rattle.rules.specs.Sheet.{countOf}
 use Rattle.rules.specs.Refusals.{Answer, Outcome, sound}
-use Rattle.compose.proofs.KeptRows.{rows-kept}
-use Rattle.compose.proofs.FrontRows.{front-kept}
+use Rattle.compose.proofs.AfterEdit.{metrics-kept}
+use Rattle.compose.proofs.BeforeEdit.{front-kept}
 use Rattle.slot.specs.Slot.{replaced}
-use Rattle.slot.proofs.Replaced.{replaced-length}
-use Rattle.slot.proofs.Counted.{countable, counted-answer}
-use Rattle.slot.proofs.Stored.{sound-limits, sound-count, stored-count, stored-0, stored-4}
-use Rattle.slot.proofs.Outcomes.{refusals, refuses-4, refuses-5, refuses-5-end, refuses-6, refuses-7, replaces}
-use Rattle.slot.proofs.Edited.{NewList, new-list}
+use Rattle.slot.proofs.ReplacedSlot.{replaced-length}
+use Rattle.slot.proofs.EditCounted.{countable, counted-answer}
+use Rattle.slot.proofs.StoredRecords.{sound-limits, sound-count, stored-count, stored-0, stored-4}
+use Rattle.slot.proofs.EditRows.{refusals, refuses-4, refuses-5, refuses-5-end, refuses-6, refuses-7, replaces}
+use Rattle.slot.proofs.EditedList.{NewList, new-list}
 use borrow.Author.Needs.{needs}
 use Rattle.slot.proofs.edit.edit_slot.Statement.{statement}
 use Rattle.slot.proofs.edit.edit_slot.Tie as tie
@@ -35,20 +36,29 @@ entry c = tables-lent c .before .before .before .before
 abbrev four : tie.Else3 → tie.Else1
 four c = c .before .before .before
 
+abbrev splicing : tie.After-splice-arg → tie.Else5
+splicing c = c .before .before .before
+
 abbrev seven : tie.After-splice → tie.Else5
-seven c = c .before .before .before .before
+seven c = splicing (c .before)
 
 abbrev five : tie.After-splice → tie.Else3
 five c = seven c .before .before
 
-abbrev rows-lent : tie.After-offsets2 → tie.After-keep-rows-arg
-rows-lent c = c .before .before .before
+abbrev metrics-lent : tie.After-offsets2 → tie.After-keep-metrics-arg
+metrics-lent c = c .before .before .before
 
 abbrev keeping : tie.After-offsets2 → tie.After-splice
-keeping c = rows-lent c .before .before .before
+keeping c = metrics-lent c .before .before .before
 
-abbrev stopping : tie.After-offsets3 → tie.After-over
-stopping c = c .before .before .before .before .before
+abbrev list-lent : tie.After-offsets3 → tie.After-list3
+list-lent c = c .before .before .before
+
+abbrev stopping : tie.After-offsets3 → tie.After-excess
+stopping c = list-lent c .before .before
+
+abbrev replacing : tie.After-counted-arg → tie.After-replace
+replacing c = c .before .before .before .before
 
 abbrev listed : tie.After-replace → tie.After-splice
 listed c = keeping (stopping (c .before) .before .before)
@@ -57,7 +67,7 @@ listed c = keeping (stopping (c .before) .before .before)
 is-sound-at : (c : tie.Else1) → sound (now (entry c .args .words)) ≡ true
 is-sound-at c = stored-0 _ (stored c .stored-lines .ensures .0 .answer) (c .if1 .left)
 
-few-at : (c : tie.Else1) → countOf (now (entry c .args .words)) ≤ 256
+few-at : (c : tie.Else1) → countOf (now (entry c .args .words)) ≤ mostRecords
 few-at c = sound-count _ (is-sound-at c)
 
 -- past answer 5 the deletion ends within the records
@@ -107,8 +117,8 @@ returns-5 c =
     (refuses-7 _ _ _ _ (is-sound-at (four (six .before))) (within-at (six .before)) (six .if4 .left)
     (omega (arith, c .before .if5 .taken, six .if4 .left)))
 
-keep-rows-requires : tie.Need-keep-rows-requires
-keep-rows-requires c κs =
+keep-metrics-requires : tie.Need-keep-metrics-requires
+keep-metrics-requires c κs =
     let d = keeping c in
     let f = five d in
     let n = stored-count (now (entry (four f) .args .words)) (entry (four f) .pre) (few-at (four f)) in
@@ -123,16 +133,16 @@ replace-requires c κs =
     let o = stopping c in
     let d = keeping (o .before .before) in
     let f = four (five d) in
-    let rows = stored f .stored-lines .ensures .1 (f .if1 .left) in
-    let moved = o .before .keep-rows .ensures in
+    let metrics = stored f .stored-lines .ensures .1 (f .if1 .left) in
+    let moved = o .before .keep-metrics .ensures in
     let n = new-list-at d in (
       n .replaceable (sound-limits _ (is-sound-at f)),
-      (rows-kept rows (n .edit) moved, rw (o .over .ensures) (front-kept rows (n .edit) moved)),
+      (metrics-kept metrics (n .edit) moved, rw (o .excess .ensures) (front-kept metrics (n .edit) moved)),
     )
 
 counted-requires : tie.Need-counted-requires
 counted-requires c κs =
-    let r = c .before .before .before .before in
+    let r = replacing c in
     let s = listed r in
     let f = five s in
     let starts = stored (four f) .stored-lines .ensures .0 .lines (four f .if1 .left) in
@@ -145,7 +155,7 @@ counted-requires c κs =
 
 returns-6 : tie.Need-returns-6
 returns-6 c =
-    let r = c .before .before .before .before .before in
+    let r = replacing (c .before) in
     let s = listed r in
     let f = five s in
     let whole = seven s .before .if4 .left in
@@ -187,7 +197,7 @@ edit-slot-spec =
     (λ c. search needs)
     (λ c. let f = four (c .before .before .before .before) in omega (arith, few-at f, entry f .pre))
     (λ c. search needs)
-    (λ c. let f = c .before .before .before .before .before in omega (arith, few-at (four f), within-at f))
+    (λ c. let f = splicing c .before .before in omega (arith, few-at (four f), within-at f))
     (λ c. search needs)
     (λ c. search needs)
     (λ c κs. search needs)
@@ -197,7 +207,7 @@ edit-slot-spec =
     (λ c. let f = five (c .before .before .before) in omega (arith, few-at (four f), within-at f))
     (λ c. search needs)
     (λ c. search needs)
-    keep-rows-requires
+    keep-metrics-requires
     (λ c κs. search needs)
     (λ c. search needs)
     (λ c. search needs)

@@ -8,18 +8,21 @@ use Rattle.rules.specs.Basics.{zeros}
 use Rattle.rules.specs.Sheet.{measureOf, indentOf}
 use Rattle.rules.specs.Refusals.{judged}
 use Rattle.compose.specs.Paragraph.{paragraph}
-use Rattle.slot.proofs.Replaced.{refused-slot, accepted-slot, replaced-few}
-use Rattle.slot.proofs.Stored.{fitting}
+use Rattle.slot.proofs.ReplacedSlot.{refused-slot, accepted-slot, replaced-few}
+use Rattle.slot.proofs.StoredRecords.{fitting}
 use borrow.Author.Needs.{needs}
 use Rattle.slot.proofs.edit.replace.Statement.{statement}
 use Rattle.slot.proofs.edit.replace.Tie as tie
 
 -- the function's entry, from where all is lent to the composing
-abbrev rows-lent : tie.After-lines → tie.After-compose-arg3
-rows-lent c = c .before .before .before
+abbrev metrics-lent : tie.After-lines → tie.After-compose-arg3
+metrics-lent c = c .before .before .before
+
+abbrev tables-known : tie.After-compose-arg3 → tie.After-slice-known3
+tables-known c = c .before .before .before
 
 abbrev entry : tie.After-lines → tie.Start
-entry c = rows-lent c .before .before .before .before .before .before .before
+entry c = tables-known (metrics-lent c) .before .before .before .before
 
 compose-requires : tie.Need-compose-requires
 compose-requires c κs =

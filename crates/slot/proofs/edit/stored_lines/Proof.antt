@@ -10,15 +10,18 @@ use Rattle.rules.specs.Adjustment.{compose}
 use Rattle.rules.specs.Sheet.{measureOf, indentOf, recordsOf, limitsOk}
 use Rattle.rules.specs.Refusals.{judged, sound}
 use Rattle.rules.specs.Redone.{start}
-use Rattle.slot.proofs.Stored.{fitting, stored-size, stored-paragraph, limits-off, count-off, use-off}
-use Rattle.slot.proofs.Stored.{records-tell, stored-damaged, refused-sound, stored-sound}
+use Rattle.slot.proofs.StoredRecords.{fitting, stored-size, stored-paragraph, limits-off, count-off, use-off}
+use Rattle.slot.proofs.StoredRecords.{records-tell, stored-damaged, refused-sound, stored-sound}
 use borrow.Author.Needs.{needs}
 use Rattle.slot.proofs.edit.stored_lines.Statement.{statement}
 use Rattle.slot.proofs.edit.stored_lines.Tie as tie
 
 -- the function's entry, and that measure and indent are within limits, from past the tests of both and of the count
+abbrev measured : tie.After-limits-ok → tie.After-shared-slice-known
+measured c = c .before .before .before .before
+
 abbrev entry : tie.Else1 → tie.Start
-entry c = c .before .before .before .before .before .before
+entry c = measured (c .before) .before
 
 limits-at : (c : tie.Else1) → let w = now (entry c .args .words) in limitsOk (measureOf w) (indentOf w) ≡ true
 limits-at c = sym (c .before .limits-ok .ensures) ∙ not-false _ (c .if1 .left)
@@ -26,7 +29,7 @@ limits-at c = sym (c .before .limits-ok .ensures) ∙ not-false _ (c .if1 .left)
 returns : tie.Need-returns
 returns c =
     let d = c .before in
-    let w = now (d .before .before .before .before .before .before .args .words) in
+    let w = now (measured (d .before) .before .args .words) in
     stored-damaged w _ _ _ (limits-off w (sym (d .before .limits-ok .ensures) ∙ not-true _ (d .if1 .taken)))
     (c .damaged .ensures)
 
@@ -47,11 +50,11 @@ returns-3 c =
 abbrev head-passed : tie.Else3 → tie.Else2
 head-passed c = c .before .before
 
-abbrev tables-lent : tie.After-check → tie.After-check-arg
-tables-lent c = c .before .before .before .before .before
+abbrev tables-lent : tie.After-check-arg5 → tie.After-check-arg
+tables-lent c = c .before .before .before .before
 
 abbrev checking : tie.After-check → tie.Else3
-checking c = tables-lent c .before
+checking c = tables-lent (c .before) .before
 
 records-tell-at : (c : tie.Else3) →
     let w = now (entry (head-passed c .before) .args .words) in
@@ -62,7 +65,7 @@ records-tell-at c =
 
 check-requires : tie.Need-check-requires
 check-requires c κs =
-    let d = head-passed (c .before .before .before .before .before) in
+    let d = head-passed (tables-lent c .before) in
     let s = entry (d .before) in
     fitting _ _ _ (stored-size (now (s .args .words)) (s .pre) (d .if2 .left)) (limits-at (d .before))
 

@@ -1,7 +1,7 @@
 -- `slot::giving::give_back_slot` meets its contract. Assumes nothing.
 use denote.Ref.{now}
-use Rattle.slot.proofs.Stored.{stored-0, stored-4}
-use Rattle.slot.proofs.Given.{gives-4, gives-emptied}
+use Rattle.slot.proofs.StoredRecords.{stored-0, stored-4}
+use Rattle.slot.proofs.GiveBackLaws.{gives-4, gives-emptied}
 use borrow.Author.Needs.{needs}
 use Rattle.slot.proofs.giving.give_back_slot.Statement.{statement}
 use Rattle.slot.proofs.giving.give_back_slot.Tie as tie
@@ -22,11 +22,12 @@ returns c =
 
 returns-2 : tie.Need-returns-2
 returns-2 c =
-    let k = c .before .before in
+    let k = c .before .before .before in
     let d = k .before .before in
     let s = entry (d .before .before) in
-    gives-emptied (now (s .args .words)) _ (s .pre)
+    gives-emptied (now (s .args .words)) _ _ _ (s .pre)
     (stored-0 _ (d .before .before .stored-lines .ensures .0 .answer) (d .if1 .left)) (k .clear .ensures)
+    (c .says .ensures)
 
 pub give-back-slot-spec : {M : Type 1} → statement M
 give-back-slot-spec =
@@ -39,6 +40,7 @@ give-back-slot-spec =
     (λ c. search needs)
     (λ c. search needs)
     (λ c. search needs)
+    (λ c κs. search needs)
     (λ c κs. search needs)
     (λ c. search needs)
     returns-2)

@@ -1,7 +1,7 @@
 -- `slot::redone::first_redone` meets its contract. Assumes nothing.
 use native.Mathlib.Omega.{arith}
 use borrow.Author.Needs.{needs}
-use Rattle.slot.proofs.Report.{redone-from}
+use Rattle.slot.proofs.RedoneReport.{redone-from}
 use Rattle.slot.proofs.redone.first_redone.Statement.{statement}
 use Rattle.slot.proofs.redone.first_redone.Tie as tie
 

@@ -4,7 +4,8 @@ use Prim.Native.Nat.{_*_, _-_}
 use native.Mathlib.Omega.{arith}
 use mathlib.Core.Logic.{⊎-elim}
 use borrow.Author.Needs.{needs}
-use Rattle.slot.proofs.Report.{Searching, search-start, search-end, search-early, search-found, search-next}
+use Rattle.slot.proofs.RedoneReport.{Searching, search-start, search-end, search-early}
+use Rattle.slot.proofs.RedoneReport.{search-found, search-next}
 use Rattle.slot.proofs.redone.lines_redone.Statement.{statement}
 use Rattle.slot.proofs.redone.lines_redone.Tie as tie
 
@@ -15,14 +16,11 @@ Inv-loop starts count lines line-count place deleted inserted f j₀ k₀ j k =
 abbrev μ-loop : tie.MeasureT-loop
 μ-loop starts count lines line-count place deleted inserted f j₀ k₀ j k = line-count - j
 
-first-redone-requires : tie.Need-first-redone-requires Inv-loop μ-loop
-first-redone-requires c κs = search needs
+abbrev start : tie.At-loop Inv-loop μ-loop → tie.Start Inv-loop μ-loop
+start c = c .before .before .before .before
 
 loop-holds : tie.Need-loop-holds Inv-loop μ-loop
 loop-holds c = search-start _ _ _ _ _ _ _ _ (c .first-redone .ensures)
-
-shared-slice-read-first : tie.Need-shared-slice-read-first Inv-loop μ-loop
-shared-slice-read-first c = search needs
 
 cast-first : tie.Need-cast-first Inv-loop μ-loop
 cast-first c = omega (arith, c .shared-slice-known3 .given (3 * c .before .before .loop .j))
@@ -35,7 +33,7 @@ returns c =
     let d = c .before .before .before in
     let l = d .before .before .before in
     let w = c .before .starts-with .ensures .yes (c .if3 .taken) in (
-      omega (arith, l .before .before .before .before .before .pre .0 .few),
+      omega (arith, start (l .before) .pre .0 .few),
       search-found _ _ _ _ _ _ _ (l .before .loop .inv) (l .loop-test .taken) (d .before .if1 .taken)
           (d .line-from .ensures) (c .before .before .if2 .taken) (w .0) (w .1),
     )
@@ -59,7 +57,7 @@ loop-again c =
 returns-2 : tie.Need-returns-2 Inv-loop μ-loop
 returns-2 c =
     let l = c .before in (
-      omega (arith, l .before .before .before .before .pre .0 .few, l .loop .inv .high),
+      omega (arith, start l .pre .0 .few, l .loop .inv .high),
       search-end _ _ _ _ _ _ _ (l .loop .inv) (c .loop-test .left),
     )
 
@@ -69,11 +67,11 @@ lines-redone-spec =
     (tie.spec
     Inv-loop
     μ-loop
-    first-redone-requires
+    (λ c κs. search needs)
     loop-holds
     (λ c. search needs)
     (λ c. search needs)
-    shared-slice-read-first
+    (λ c. search needs)
     cast-first
     (λ c. search needs)
     (λ c. search needs)

@@ -3,7 +3,7 @@ use mathlib.Core.Path.{sym}
 use native.Mathlib.Omega.{arith}
 use borrow.Author.Needs.{needs}
 use borrow.Author.Tests.{eqb-true, eqb-false}
-use Rattle.rules.proofs.Facts.{true-false}
+use Rattle.rules.proofs.Decisions.{true-false}
 use Rattle.slot.proofs.redone.starts_with.Statement.{statement}
 use Rattle.slot.proofs.redone.starts_with.Tie as tie
 
