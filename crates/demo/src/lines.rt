@@ -1,104 +1,109 @@
-// A slot's lines: each character at the column of its x, with its ruby over it and the x under it.
-use crate::columns::column_of;
-use crate::columns::columns;
-use crate::columns::digits;
+// A slot's lines, between marks at the two ends of its measure: each with its ruby over it, and beside it its kind and
+// the x of its end.
+use crate::columns::close_row;
+use crate::columns::column_after;
 use crate::columns::fill;
-use crate::records::code;
-use crate::records::limited;
-use crate::records::position;
-use crate::records::record_count;
+use crate::columns::own_column;
+use crate::records::Line;
+use crate::records::field;
 use crate::records::slot_words;
-use crate::ruby::has_ruby;
+use crate::records::word;
 use crate::ruby::print_ruby_row;
 use crate::show::print_code;
 use crate::show::print_count;
 use crate::show::print_number;
 use crate::show::print_refusal;
 use crate::show::say;
+use rules::layout::CODE_POINT;
+use rules::layout::END_X;
+use rules::layout::FINAL;
+use rules::layout::FLUSH;
+use rules::layout::KIND;
+use rules::layout::LINE_WORDS;
+use rules::layout::RECORD_COUNT;
+use rules::layout::SHORT;
 use sheet::Clinic;
 use sheet::SlotNumber;
-ghost use Prim.Native.Nat.{_/_, _<_, _≤_};
+ghost use Prim.Native.Nat.{_/_, _<_};
 ghost use lib.ListN.{length};
 
-// The two rows that every line has.
-enum Row {
-    Characters,
-    Positions,
-}
-
-// Record `i` of a slot, at the column of its x: its character, or the x itself. Gives the columns it takes.
-fn print_cell(slot: &[u32], i: u32, row: Row) -> u32
-    ensures { λ r. ⌜ r ≤ 4 ⌝ }
-{
-    match row {
-        Row::Characters => {
-            let c = code(slot, i);
-            print_code(c);
-            columns(c)
-        }
-        Row::Positions => {
-            let x = position(slot, i);
-            print_number(x);
-            digits(x)
-        }
-    }
-}
-
-// A row of a line, from the second column on.
-fn print_row(slot: &[u32], first: u32, end: u32, row: Row) {
-    say(b"  ");
-    let mut i = first;
-    let mut next = 0;
-    while i < end {
-        let at = column_of(position(slot, i) as u64);
-        fill(next, at);
-        next = at + print_cell(slot, i, row);
+// The characters of a line.
+fn print_row(slot: &[u32], line: Line) {
+    let mut i = line.first;
+    let mut free = 0;
+    while i < line.end {
+        fill(free, own_column(slot, i));
+        print_code(field(slot, i, CODE_POINT));
+        free = column_after(slot, i, free);
         i += 1;
     }
-    say(b"\n");
+    close_row(slot, free);
 }
 
-// The rows of a line.
-fn print_rows(slot: &[u32], text: &[u8], first: u32, end: u32)
-    requires { ⌜ end ≤ 256 ⌝ }
-{
-    if has_ruby(slot, first, end) {
-        print_ruby_row(slot, text, first, end);
+// A line's number, in three columns, and the mark where the row begins.
+fn print_label(number: usize) {
+    if number < 10 {
+        say(b" ");
     }
-    print_row(slot, first, end, Row::Characters);
-    print_row(slot, first, end, Row::Positions);
+    if number < 100 {
+        say(b" ");
+    }
+    print_count(number);
+    say(b" |");
 }
 
 fn print_kind(kind: u32) {
     match kind {
-        1 => say(b"flush"),
-        2 => say(b"short"),
-        3 => say(b"final"),
+        FLUSH => say(b"flush"),
+        SHORT => say(b"short"),
+        FINAL => say(b"final"),
         _ => say(b"of no kind"),
     }
 }
 
-// Line `j` of a slot. Its records end where the next line's begin, or at the record count.
-fn print_line(slot: &[u32], text: &[u8], lines: &[u32], j: usize)
-    requires { ⌜ j < length (now lines) / 3 ⌝ }
-{
-    let at = 3 * j;
-    say(b"  line ");
-    print_count(j);
-    say(b", ");
-    print_kind(lines[at + 2]);
-    say(b", ends at ");
-    print_number(lines[at + 1]);
-    say(b"\n");
-    if at + 3 < lines.len() {
-        print_rows(slot, text, lines[at], limited(lines[at + 3], 256));
+// Where a line ends: where the next one begins, whose words start at `next`, or at the record count.
+fn line_end(slot: &[u32], lines: &[u32], next: usize) -> u32 {
+    if next < lines.len() {
+        lines[next]
     } else {
-        print_rows(slot, text, lines[at], record_count(slot));
+        word(slot, RECORD_COUNT)
     }
 }
 
+// The records of line `j`.
+fn line_at(slot: &[u32], lines: &[u32], j: usize) -> Line
+    requires { do ⌜ j < length (now lines) / (← ⟦LINE_WORDS⟧) ⌝ }
+{
+    let at = LINE_WORDS * j;
+    Line {
+        first: lines[at],
+        end: line_end(slot, lines, at + LINE_WORDS),
+    }
+}
+
+// What stands beside a line: its kind and the x of its end.
+fn print_end(kind: u32, x: u32) {
+    say(b" ");
+    print_kind(kind);
+    say(b", ");
+    print_number(x);
+    say(b"\n");
+}
+
+// Line `j` of a slot.
+fn print_line(slot: &[u32], text: &[u8], lines: &[u32], j: usize)
+    requires { do ⌜ j < length (now lines) / (← ⟦LINE_WORDS⟧) ⌝ }
+{
+    let at = LINE_WORDS * j;
+    let line = line_at(slot, lines, j);
+    print_ruby_row(slot, text, line);
+    print_label(j);
+    print_row(slot, line);
+    print_end(lines[at + KIND], lines[at + END_X]);
+}
+
 fn print_lines(slot: &[u32], text: &[u8], lines: &[u32]) {
-    let count = lines.len() / 3;
+    let count = lines.len() / LINE_WORDS;
     let mut j = 0;
     while j < count {
         print_line(slot, text, lines, j);
@@ -116,7 +121,7 @@ pub(crate) fn print_read(sheet: &[u32], caller: Clinic, slot: SlotNumber) {
     }
     let lines = sheet::read(sheet, caller, slot);
     say(b"  read: ");
-    print_count(lines.len() / 3);
+    print_count(lines.len() / LINE_WORDS);
     say(b" lines.\n");
 }
 

@@ -3,6 +3,7 @@
 mod columns;
 mod lines;
 mod markup;
+mod numbers;
 mod records;
 mod ruby;
 mod show;
@@ -11,6 +12,18 @@ mod utf8;
 
 use lines::print_read;
 use lines::print_slot;
+use lists::classes::COMMA;
+use lists::classes::IDEOGRAPHIC;
+use lists::classes::WESTERN;
+use numbers::COMMA_CODE;
+use numbers::HALF;
+use numbers::TEXT_SIZE;
+use rules::layout::ADVANCE;
+use rules::layout::CLASS;
+use rules::layout::CODE_POINT;
+use rules::layout::RECORD_WORDS;
+use rules::layout::SIZE;
+use rules::layout::SLOT_WORDS;
 use sheet::Clinic;
 use sheet::SlotNumber;
 use show::Call;
@@ -19,13 +32,13 @@ use show::print_edit;
 use show::print_import;
 use show::say;
 use texts::CARE_NOTE;
+use texts::COMMA_AT;
+use texts::DOSE_AT;
 use texts::DOSE_NOTE;
+use texts::DOSE_WORDS;
 use texts::LONG_WORD;
 use texts::OPEN_NOTE;
-ghost use Prim.Native.Nat.{_<_, _≤_};
-
-// Every character is of this size.
-const SIZE: u32 = 80;
+ghost use Prim.Native.Nat.{_<_};
 
 fn set_up_clinics(sheet: &mut [u32]) {
     say(b"Clinics 7, 8, 9 get slots 0, 1, 2 of measures 520, 560, 400 and indents 80, 80, 0.\n");
@@ -51,7 +64,7 @@ fn import(sheet: &mut [u32], caller: Clinic, slot: SlotNumber, text: &[u8]) {
     say(b"  ");
     say(text);
     say(b"\n");
-    print_import(sheet::import(sheet, caller, slot, SIZE, text), text);
+    print_import(sheet::import(sheet, caller, slot, TEXT_SIZE, text), text);
 }
 
 // Line 1 would have room for 1, but not for 10%, and line 2 for 500, but not for 500mg. To an import % is a Western
@@ -61,20 +74,25 @@ fn import_dose_note(sheet: &mut [u32]) {
     say(b"\nClinic 7 takes a slot. None is in use before its clinic takes it.\n");
     take(sheet, Clinic(7));
     say(b"Clinic 7 imports a dose note into slot 0. A strength keeps its %, a dose its unit.\n");
-    import(sheet, Clinic(7), SlotNumber(0), &DOSE_NOTE);
-    say(b"Clinic 7 reads slot 0. Each character stands where its x is, ten units to a column.\n");
-    print_slot(sheet, Clinic(7), SlotNumber(0), &DOSE_NOTE);
+    let note: &[u8] = &DOSE_NOTE;
+    import(sheet, Clinic(7), SlotNumber(0), note);
+    say(b"Clinic 7 reads slot 0. A column is 40 units; each character stands where its x lies.\n");
+    say(b"Beside a line stand its kind and the x of its end.\n");
+    print_slot(sheet, Clinic(7), SlotNumber(0), note);
 }
 
-// In line 0 the base is the longer row, and its ruby opens until both end together. In line 2 the ruby is, and its base
-// opens. In line 3 a single character stands in the middle.
+// Ruby is half as large as its base. So in line 0 the base is the longer row, in line 2 the ruby, and the base opens
+// under it, and in line 3 a single character stands in the middle under its ruby.
 fn import_care_note(sheet: &mut [u32]) {
     say(b"\nClinic 8 takes a slot.\n");
     take(sheet, Clinic(8));
     say(b"Clinic 8 imports an aftercare note into slot 1.\n");
-    import(sheet, Clinic(8), SlotNumber(1), &CARE_NOTE);
-    say(b"Clinic 8 reads slot 1. Ruby and base end together; a single one stands in the middle.\n");
-    print_slot(sheet, Clinic(8), SlotNumber(1), &CARE_NOTE);
+    let note: &[u8] = &CARE_NOTE;
+    import(sheet, Clinic(8), SlotNumber(1), note);
+    say(
+        b"Clinic 8 reads slot 1. Ruby starts where its base does; a terminal cannot show it smaller.\n",
+    );
+    print_slot(sheet, Clinic(8), SlotNumber(1), note);
 }
 
 // A text with a fault changes nothing.
@@ -85,44 +103,44 @@ fn try_refused_import(sheet: &mut [u32]) {
     print_read(sheet, Clinic(8), SlotNumber(1));
 }
 
-// Record `i` of a dose: a digit, half as wide as its size.
-fn put_digit(words: &mut [u32; 18], i: usize, digit: u32)
-    requires { ⌜ (i < 3) × (digit ≤ 9) ⌝ }
+// Record `i` of a dose: a digit.
+fn put_digit(words: &mut [u32; DOSE_WORDS], i: usize, digit: u8)
+    requires { ⌜ i < 3 ⌝ }
 {
-    let at = 6 * i;
-    words[at] = 0x30 + digit;
-    words[at + 1] = 27;
-    words[at + 2] = SIZE;
-    words[at + 3] = SIZE / 2;
+    let at = RECORD_WORDS * i;
+    words[at + CODE_POINT] = digit as u32;
+    words[at + CLASS] = WESTERN;
+    words[at + SIZE] = TEXT_SIZE;
+    words[at + ADVANCE] = HALF;
 }
 
-// Puts three records for 17 to 19 of slot 0.
-fn replace_dose(sheet: &mut [u32], caller: Clinic, words: &[u32; 18]) {
+// Puts three records for those of the dose in slot 0.
+fn replace_dose(sheet: &mut [u32], caller: Clinic, words: &[u32; DOSE_WORDS]) {
     let dose: &[u32] = words;
-    print_edit(sheet::edit(sheet, caller, SlotNumber(0), 17, 3, dose));
+    print_edit(sheet::edit(sheet, caller, SlotNumber(0), DOSE_AT, 3, dose));
 }
 
 fn edit_dose(sheet: &mut [u32], caller: Clinic) {
-    let mut words = [0u32; 18];
-    put_digit(&mut words, 0, 2);
-    put_digit(&mut words, 1, 5);
-    put_digit(&mut words, 2, 0);
+    let mut words = [0u32; DOSE_WORDS];
+    put_digit(&mut words, 0, b'2');
+    put_digit(&mut words, 1, b'5');
+    put_digit(&mut words, 2, b'0');
     replace_dose(sheet, caller, &words);
 }
 
-// Inserts a comma of a class and an advance before record 27 of slot 0.
+// Inserts a comma of a class and an advance into slot 0.
 fn insert_comma(sheet: &mut [u32], class: u32, advance: u32) {
-    let comma = [0x3001, class, SIZE, advance, 0, 0];
-    print_edit(sheet::edit(sheet, Clinic(7), SlotNumber(0), 27, 0, &comma));
+    let comma = [COMMA_CODE, class, TEXT_SIZE, advance, 0, 0];
+    print_edit(sheet::edit(sheet, Clinic(7), SlotNumber(0), COMMA_AT, 0, &comma));
 }
 
 fn try_refused_edits(sheet: &mut [u32]) {
     say(b"\nClinic 8 changes the dose in slot 0 to 250.\n");
     edit_dose(sheet, Clinic(8));
     say(b"Clinic 7 inserts a comma that is as wide as a kanji, before record 27 of slot 0.\n");
-    insert_comma(sheet, 7, SIZE);
+    insert_comma(sheet, COMMA, TEXT_SIZE);
     say(b"Clinic 7 marks it as a kanji too, so that it could open a line.\n");
-    insert_comma(sheet, 19, SIZE);
+    insert_comma(sheet, IDEOGRAPHIC, TEXT_SIZE);
 }
 
 // A read is refused of another clinic's slot, and of one's own before it is taken.
@@ -133,12 +151,13 @@ fn try_reads(sheet: &[u32]) {
     print_read(sheet, Clinic(9), SlotNumber(2));
 }
 
-// The dose stands in line 3, and is as wide as before: lines 2 and 3 are composed anew, and line 4 stands again.
+// The dose stands in line 3, and is as wide as before: lines 2 and 3 are composed anew, and line 4 stands again. It
+// has no ruby, so no markup is told.
 fn change_dose(sheet: &mut [u32]) {
     say(b"\nClinic 7 changes the dose in slot 0 to 250: records 17 to 19 make way for three.\n");
     edit_dose(sheet, Clinic(7));
     say(b"Clinic 7 reads slot 0.\n");
-    print_slot(sheet, Clinic(7), SlotNumber(0), &DOSE_NOTE);
+    print_slot(sheet, Clinic(7), SlotNumber(0), b"");
 }
 
 // Each clinic takes only slots of its own, so that none can use up another's.
@@ -170,7 +189,7 @@ fn take_again(sheet: &mut [u32]) {
 }
 
 fn main() {
-    let mut words = [0u32; 8472];
+    let mut words = [0u32; 3 * SLOT_WORDS];
     let sheet: &mut [u32] = &mut words;
     set_up_clinics(sheet);
     import_dose_note(sheet);

@@ -1,4 +1,5 @@
 // What the program writes: texts, answers and lines, in words.
+use crate::numbers::NO_LEAFLET;
 use crate::utf8::encode;
 use libc::STDOUT_FILENO;
 use sheet::Answer;
@@ -29,25 +30,32 @@ pub(crate) fn print_code(code: u32) {
     say(&bytes[..count]);
 }
 
-// Why a call is refused, by its number.
-fn print_reason(number: u32) {
+// Why records are refused, by the number.
+fn print_record_reason(number: u32) {
     match number {
-        1 => say(b"the sheet or a list has a wrong length"),
-        2 => say(b"there is no such slot"),
-        3 => say(b"the slot is not this clinic's"),
-        4 => say(b"the slot is damaged"),
         5 => say(b"the stretch passes the slot's end"),
         6 => say(b"the inserted words are not whole records"),
         7 => say(b"there would be more than 256 records"),
         8 => say(b"a record breaks its own rules"),
         9 => say(b"a record breaks its group's rules"),
         10 => say(b"a run without a break is wider than the measure"),
-        11 => say(b"a clinic, measure or indent is out of limits"),
         12 => say(b"a character is not in the published list of its class"),
+        _ => say(b"there is no such number"),
+    }
+}
+
+// Why a call is refused, by the number.
+fn print_reason(number: u32) {
+    match number {
+        1 => say(b"the sheet or a list has a wrong length"),
+        2 => say(b"there is no such slot"),
+        3 => say(b"the slot is not this clinic's"),
+        4 => say(b"the slot is damaged"),
+        11 => say(b"a clinic, measure or indent is out of limits"),
         13 => say(b"the clinic has no free slot"),
         14 => say(b"the slot is not in use; its clinic must take it first"),
         17 => say(b"the text is no leaflet from this byte on"),
-        _ => say(b"there is no such number"),
+        _ => print_record_reason(number),
     }
 }
 
@@ -132,7 +140,7 @@ pub(crate) fn print_import(answer: ImportAnswer, text: &[u8]) {
         return;
     }
     print_refused_at(answer.number, answer.place);
-    if answer.number == 17 {
+    if answer.number == NO_LEAFLET {
         print_rest(text, answer.place);
     }
 }

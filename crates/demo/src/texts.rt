@@ -1,5 +1,6 @@
 // The texts that clinics import: UTF-8 with the elements ruby, rt and rp. A byte string takes bytes above 127 only as
 // escapes, so over each stands what it says, line for line.
+use rules::layout::RECORD_WORDS;
 
 // A dose note.
 //     食後に
@@ -15,6 +16,13 @@ pub(crate) const DOSE_NOTE: [u8; 92] = *b"\
     \xE4\xB8\x80\xE5\x9B\x9E500mg\xE3\x81\x9A\xE3\x81\xA4\xE3\x80\x81\
     \xE6\xB0\xB4\xE3\x81\xA7\xE6\x9C\x8D\xE7\x94\xA8\xE3\x81\x97\xE3\x81\xA6\
     \xE3\x81\x8F\xE3\x81\xA0\xE3\x81\x95\xE3\x81\x84\xE3\x80\x82";
+
+// The first record of its dose, 500, with the words that its digits take, and one before which a comma is tried.
+pub(crate) const DOSE_AT: u32 = 17;
+
+pub(crate) const DOSE_WORDS: usize = 3 * RECORD_WORDS;
+
+pub(crate) const COMMA_AT: u32 = 27;
 
 // An aftercare note, with ruby over three of its words: shorter than its base, longer, and longer than a single
 // character. The last has rp, which browsers without ruby show.

@@ -5,31 +5,10 @@ use Rattle.demo.proofs.ruby.has_ruby.Statement.{statement}
 use Rattle.demo.proofs.ruby.has_ruby.Tie as tie
 
 abbrev Inv-loop : tie.InvT-loop
-Inv-loop slot first end i₀ i = Unit
+Inv-loop slot line i₀ i = Unit
 
 abbrev μ-loop : tie.MeasureT-loop
-μ-loop slot first end i₀ i = end - i
-
-loop-holds : tie.Need-loop-holds Inv-loop μ-loop
-loop-holds c = search needs
-
-group-requires : tie.Need-group-requires Inv-loop μ-loop
-group-requires c κs = search needs
-
-returns : tie.Need-returns Inv-loop μ-loop
-returns c = search needs
-
-add-i : tie.Need-add-i Inv-loop μ-loop
-add-i c = search needs
-
-loop-less : tie.Need-loop-less Inv-loop μ-loop
-loop-less c = search needs
-
-loop-again : tie.Need-loop-again Inv-loop μ-loop
-loop-again c = search needs
-
-returns-2 : tie.Need-returns-2 Inv-loop μ-loop
-returns-2 c = search needs
+μ-loop slot line i₀ i = line .end - i
 
 pub has-ruby-spec : {M : Type 1} → statement M
 has-ruby-spec =
@@ -37,10 +16,10 @@ has-ruby-spec =
     (tie.spec
     Inv-loop
     μ-loop
-    loop-holds
-    group-requires
-    returns
-    add-i
-    loop-less
-    loop-again
-    returns-2)
+    (λ c. search needs)
+    (λ c κs. search needs)
+    (λ c. search needs)
+    (λ c. search needs)
+    (λ c. search needs)
+    (λ c. search needs)
+    (λ c. search needs))
