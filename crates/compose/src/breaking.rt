@@ -1,5 +1,4 @@
 // Answer 10, and the breaking: from the left, line by line, with each line's sums.
-ghost use mathlib.Core.Path.{_≡_};
 ghost use Rattle.compose.specs.LineFrom.{LineDue, LineFrom, ToBreak, BrokenTo};
 use rules::added;
 use rules::layout::MOST_RECORDS;

@@ -1,5 +1,4 @@
 // The scan that fills the metrics of a paragraph's records from its end, and asks answers 8, 12 and 9 on its way.
-ghost use mathlib.Core.Path.{_≡_};
 ghost use Prim.Native.Nat.{_<_};
 ghost use Rattle.rules.specs.Tables.{Laid};
 ghost use Rattle.compose.specs.Scan.{ClassIndexFrom, FilledFrom, FilledIn, Filled, UnitFilled, Scanned};

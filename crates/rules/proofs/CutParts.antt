@@ -9,7 +9,6 @@ use Rattle.rules.specs.Meanings.{All, lastIn, Apart, apart-none, apart-o
 use Rattle.rules.proofs.Decisions.{tested, true-false, unmet, cons-path}
 use Rattle.rules.proofs.All.{all-front, all-back, all-first, all-append}
 use Rattle.rules.proofs.Cuts.{joined-append, cut-joined, cut-linked, cut-apart, cut-tail, maximal-only}
-use Rattle.rules.proofs.All.{all-front, all-back, all-first, all-append}
 use Rattle.rules.proofs.Cuts.{cut-first}
 
 -- runs that a test keeps apart, a test that is stronger where elements have a property keeps apart

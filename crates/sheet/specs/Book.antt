@@ -22,7 +22,7 @@
 -- the rows 1 to 3 and 14 stand once, in `onBookSlot` and in `onSlot` of crate `rules`, and 17 stands before them. The
 -- book's tables have the rows of document 01's in its order. Answer 4 has no row: it cannot come up. Assumes nothing.
 use mathlib.Core.Path.{_≡_}
-use Prim.Native.Nat.{ℕ, zero, suc, _+_, _-_, _*_, _/_, _%_}
+use Prim.Native.Nat.{ℕ, zero, suc, _+_, _-_, _/_, _%_}
 use mathlib.Core.Bool.{Bool, cond, not, _&&_, _||_}
 use mathlib.Core.List.{List, [], _∷_, _++_}
 use mathlib.Core.Option.{Option, none}

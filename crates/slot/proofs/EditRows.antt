@@ -36,7 +36,8 @@ module _ (s : List ℕ) (place deleted : ℕ) (ins : List ℕ) where
     refuses-6 h = rw (a, no-5, le-ltb (countOf s) (place + deleted) within, ne-eqb (length ins % 6) 0 h)
 
     module _ (whole : length ins % 6 ≡ 0) where
-      pub refuses-7 : mostRecords < countOf s - deleted + length ins / 6 → editSlot s place deleted ins ≡ (editSays 7 0 0, s)
+      pub refuses-7 : mostRecords < countOf s - deleted + length ins / 6 →
+          editSlot s place deleted ins ≡ (editSays 7 0 0, s)
       unfolding editSlot slotRows
       refuses-7 h =
           rw (

@@ -61,7 +61,8 @@ module _ (s list : List ℕ) (total : ℕ) (h : Replaceable s list total) where
       let e : recordWords (paragraph ws) ≡ ws =
       words-records ws (recordCount ws) (omega (arith, six, length-ws))
       ∙ take-all (6 * recordCount ws) ws (omega (arith, six, length-ws)) in
-      sym (take-append-drop total list) ∙ ap (λ l. ws ++ l) (h .rest ∙ ap (λ n. zeros (recordsLength - n)) (sym length-ws))
+      sym (take-append-drop total list)
+      ∙ ap (λ l. ws ++ l) (h .rest ∙ ap (λ n. zeros (recordsLength - n)) (sym length-ws))
       ∙ ap (λ l. padded recordsLength l) (sym e)
 
   pub replaced-few : recordCount ws ≤ mostRecords

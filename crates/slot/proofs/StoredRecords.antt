@@ -7,7 +7,7 @@ use native.Mathlib.Omega.{arith}
 use lib.Dec.{leb, ltb, eqb}
 use lib.ListN.{length, take, drop, getD, length-drop}
 use lib.Seq.{length-take-le}
-use borrow.Author.Tests.{eqb-true, leb-true, ltb-true, le-leb, lt-leb, ne-eqb}
+use borrow.Author.Tests.{leb-true, ltb-true, le-leb, lt-leb, ne-eqb}
 use Rattle.rules.specs.Layout.{mostRecords, slotLength}
 use Rattle.rules.specs.Basics.{within}
 use Rattle.rules.specs.Records.{records}
@@ -18,10 +18,7 @@ use Rattle.rules.specs.Stable.{ruledLines}
 use Rattle.rules.proofs.Bounds.{within-high}
 use Rattle.rules.proofs.RecordLimits.{and-left, and-right}
 use Rattle.rules.proofs.RecordWords.{records-take}
-use Rattle.rules.specs.Listed.{isListed, notListed}
-use Rattle.rules.specs.Meanings.{All}
-use Rattle.rules.proofs.FirstFailing.{none-fails}
-use Rattle.rules.proofs.Judged.{judged-passes, line-count}
+use Rattle.rules.proofs.Judged.{line-count}
 use Rattle.compose.specs.Paragraph.{recordCount, paragraph}
 use Rattle.compose.specs.Composed.{Fitting}
 use Rattle.slot.specs.Slot.{storedWords, StoredLines}

@@ -5,7 +5,7 @@ use Prim.Native.Nat.{ℕ, _+_, _-_, _≤_}
 use native.Mathlib.Omega.{arith}
 use lib.ListN.{length, take, drop, getD, length-append, length-drop, drop-of-length-le}
 use lib.Seq.{paste, take-append-seam, take-length, drop-append-add, drop-cons, drop-drop, length-take-le, take-all}
-use Rattle.rules.specs.Layout.{headLength, recordsLength, placesLength, linesLength, slotLength, linesAt, placesAt}
+use Rattle.rules.specs.Layout.{headLength, recordsLength, placesLength, linesLength, slotLength}
 use Rattle.rules.specs.Layout.{recordCountAt, recordsAt, placesAt, linesAt}
 use Rattle.slot.specs.Slot.{headOf, spliced}
 
@@ -82,16 +82,21 @@ pub writes : (w list places lines a b c d : List ℕ) (n k : ℕ) → length w �
     d ≡ headOf w n k ++ (list ++ (places ++ lines))
 writes w list places lines a b c d n k hw hl hp hn h₁ h₂ h₃ h₄ =
     let p₁ = headOf w n k in
-    let s₁ : a ≡ p₁ ++ drop 8 w = h₁ ∙ headed w n k (omega arith) in
-    let s₂ : b ≡ (p₁ ++ list) ++ drop recordsLength (drop 8 w) =
-    rw append-assoc (rw (s₁, hl) at h₂ ∙ paste-at p₁ (drop 8 w) list 8 recordsLength refl hl) in
-    let l₂ : length (p₁ ++ list) ≡ placesAt = length-append p₁ list ∙ ap (λ j. 8 + j) hl in
-    let s₃ : c ≡ ((p₁ ++ list) ++ places) ++ drop placesLength (drop recordsLength (drop 8 w)) =
-    rw append-assoc (rw (s₂, hp) at h₃ ∙ paste-at (p₁ ++ list) (drop recordsLength (drop 8 w)) places placesAt placesLength l₂ hp) in
+    -- what is left of the slot's words after its head, its records and its places
+    let t₁ = drop headLength w in
+    let t₂ = drop recordsLength t₁ in
+    let t₃ = drop placesLength t₂ in
+    let s₁ : a ≡ p₁ ++ t₁ = h₁ ∙ headed w n k (omega arith) in
+    let s₂ : b ≡ (p₁ ++ list) ++ t₂ =
+    rw append-assoc (rw (s₁, hl) at h₂ ∙ paste-at p₁ t₁ list recordsAt recordsLength refl hl) in
+    let l₂ : length (p₁ ++ list) ≡ placesAt = length-append p₁ list ∙ ap (λ j. recordsAt + j) hl in
+    let s₃ : c ≡ ((p₁ ++ list) ++ places) ++ t₃ =
+    rw append-assoc (rw (s₂, hp) at h₃ ∙ paste-at (p₁ ++ list) t₂ places placesAt placesLength l₂ hp) in
     let l₃ : length ((p₁ ++ list) ++ places) ≡ linesAt =
     length-append (p₁ ++ list) places ∙ ap (λ j. j + length places) l₂ ∙ ap (λ j. placesAt + j) hp in
-    let s₄ : d ≡ ((p₁ ++ list) ++ places) ++ (lines ++ drop linesLength (drop placesLength (drop recordsLength (drop 8 w)))) =
-    rw (s₃, hn) at h₄ ∙ paste-at ((p₁ ++ list) ++ places) (drop placesLength (drop recordsLength (drop 8 w))) lines linesAt linesLength l₃ hn in
-    let z : drop linesLength (drop placesLength (drop recordsLength (drop 8 w))) ≡ [] =
-    let h : length w ≤ 8 + recordsLength + placesLength + linesLength = omega arith in simp drop-drop (drop-of-length-le w h) in
+    let s₄ : d ≡ ((p₁ ++ list) ++ places) ++ (lines ++ drop linesLength t₃) =
+    rw (s₃, hn) at h₄ ∙ paste-at ((p₁ ++ list) ++ places) t₃ lines linesAt linesLength l₃ hn in
+    let z : drop linesLength t₃ ≡ [] =
+    let h : length w ≤ headLength + recordsLength + placesLength + linesLength = omega arith in
+    simp drop-drop (drop-of-length-le w h) in
     s₄ ∙ ap (λ t. ((p₁ ++ list) ++ places) ++ (lines ++ t)) z ∙ regroup p₁ list places lines

@@ -1,5 +1,5 @@
-//! Both rows of groups (document 02, request 06): groups among other records, alone in their slots, and rows of ruby over
-//! any base advance.
+//! Both rows of groups (document 02, request 06): groups among other records, alone in their slots, and rows of
+//! ruby over any base advance.
 
 use super::{composed, Case, Words, K};
 use crate::answer::EditAnswer;
