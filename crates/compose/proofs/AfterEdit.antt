@@ -27,7 +27,7 @@ use Rattle.compose.proofs.RecordsApart.{faults_apart, metrics_from}
 abbrev pub Shared : List ℕ → List ℕ → ℕ → ℕ → ℕ → Type 0
 Shared ws ws' source target n =
     (k : ℕ) → k < record_length * n →
-        get_or ws' (record_length * target + k) 0 ≡ get_or ws (record_length * source + k) 0
+    get_or ws' (record_length * target + k) 0 ≡ get_or ws (record_length * source + k) 0
 
 module _ (ws ws' : List ℕ) (source target n : ℕ) (same : Shared ws ws' source target n) where
   pub records_same : (i j n' : ℕ) → target ≤ i → i + n' ≤ target + n → i + source ≡ j + target →

@@ -104,7 +104,7 @@ module _ {ws ds gs os places₀ lines₀ : List ℕ} {m x : ℕ} (p : ToCompose 
                   (omega (arith, length_places_of k v.xs, length_xs m start last g, t)) d.places_written);
               lines_written =
                   paste_more (words_of i v) line_length (line_length * k)
-                      (rw (lines_first t, t.ends) at q.lines_written)
+                  (rw (lines_first t, t.ends) at q.lines_written)
                   (omega arith)
                   d.lines_written;
             }

@@ -95,7 +95,7 @@ held_joined {ds' = ds'} {gs'} {os'} j [] qs qs' h f l t = subst (λ n. Held ds' 
 held_joined {ds} {gs} {os} {ds'} {gs'} {os'} {i} j (p ∷ ps) qs qs' (held_more w z h) f l t =
     let a : j + 1 + length ps ≡ j + length (p ∷ ps) = omega arith in
     held_more (subst (λ (r : ℕ × ℕ × ℕ). MetricsAre p r.0 r.1 r.2) (sym first) w) (λ e. z (none ps e))
-    (held_joined (j + 1) ps qs qs' h later l (rw (← a) at t))
+    (held_joined {i = i + 1} (j + 1) ps qs qs' h later l (rw (← a) at t))
   where
     first : metrics_at ds' gs' os' j ≡ metrics_at ds gs os i
     first = simp add-zero at (f 0 (omega arith))

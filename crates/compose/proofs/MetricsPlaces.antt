@@ -55,7 +55,7 @@ module _ {ds gs os : List ℕ} {e : Amounts} {c : Gap} where
   unit_places {k} {solid} {s} {xs} u vs i (j ∷ is) qs p l (held_more w last h) f =
       let next : Places ds gs os e c (k + 1) (solid + 0) (plus s no_gaps)
       (map (λ o. place_by e c solid s + o) (j ∷ is) ++ xs) =
-      simp add-zero (unit_places u vs j is qs p (omega arith) h f) in
+      simp add-zero (unit_places {k = k + 1} u vs j is qs p (omega arith) h f) in
       places_more w (metrics_sums k _ (omega arith) w.gap_limit last) p next
 
   -- a line, with amounts e that its gaps c can take
@@ -72,5 +72,5 @@ module _ {ds gs os : List ℕ} {e : Amounts} {c : Gap} where
       unit_places u (v ∷ us ++ vs) _ _ (metrics_of (v ∷ us ++ vs)) (part_of s (totals u (v ∷ us)) c t) l h
       (λ k m i.
       rw (place_next b s solid u v g)
-      (places_of_line (plus s (gap u v)) v us vs b (omega (arith, gives u v))
+      (places_of_line {k = k} {solid = solid + advance u} (plus s (gap u v)) v us vs b (omega (arith, gives u v))
       (plus_assoc s (gap u v) (totals v us) ∙ t) m i))

@@ -43,7 +43,7 @@ pub record MetricsToPlace (ws ds gs os : List ℕ) (i j k line x : ℕ) (e : Amo
   pub solid_limit : solid ≤ largest_measure + largest_advance * k
   pub pasting :
       Pasting places₀ (place_length * i) (line_places ws i j line x e c) (place_length * (k - i)) (places_of line xs)
-          places
+      places
 
 -- the metrics of the first of some records
 record FirstMetrics (ds gs os : List ℕ) (e : Amounts) (c : Gap) (k solid : ℕ) (s : Gap) (xs : List ℕ) : Type 0 where
@@ -139,6 +139,6 @@ module _ {ws ds gs os places₀ : List ℕ} {i j line x : ℕ} {r : Rates} {e : 
             solid_limit = omega (arith, q.solid_limit, advance_is, t.here.advance_limit);
             pasting =
                 paste_more {m = place_length * (k - i)} ((x₁ + get_or os k 0) ∷ line ∷ []) place_length
-                    (place_length * k)
+                (place_length * k)
                 (rw (a, t.here.offset) (rw t.is at q.pasting)) (omega (arith, q, p)) d;
           }

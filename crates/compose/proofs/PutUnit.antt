@@ -29,7 +29,7 @@ use Rattle.compose.proofs.MetricsBelow.{below_refl, below_trans, below_less}
 abbrev metrics_left : List ℕ → ℕ → ℕ → ℕ → ℕ → List Metrics
 metrics_left ws first end k solid =
     unit_metrics (unit_at ws first) (units_from ws end) (offsets_from ws first k solid)
-        ++ metrics_of (units_from ws end)
+    ++ metrics_of (units_from ws end)
 
 -- the metrics of k records are written, and those of the last are not: tables that have these and hold what is left
 -- hold all. `solid` is what these records take

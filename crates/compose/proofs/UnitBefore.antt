@@ -195,7 +195,7 @@ module _ {ws : List ℕ} {known i first base : ℕ} (s : Scanning ws known i) (w
     pub walk_again : not (alike p r) ≡ false → i - first < most_grouped → UnitWalk ws first i base
     walk_again a few =
         let n : alike (rec_at ws (first - 1)) (rec_at ws first) ≡ true =
-            rw (before, here) at (not-false (alike p r) a) in
+        rw (before, here) at (not-false (alike p r) a) in
         record {
           low = omega arith;
           high = omega arith;
@@ -211,7 +211,7 @@ module _ {ws : List ℕ} {known i first base : ℕ} (s : Scanning ws known i) (w
     unit_unlike a =
         let e : first ≡ first - 1 + 1 = omega arith in
         let n : alike (rec_at ws (first - 1)) (rec_at ws first) ≡ false =
-            rw (before, here) at (not-true (alike p r) a) in
+        rw (before, here) at (not-true (alike p r) a) in
         unit_none (λ c. clean_alike c (first - 1) (omega arith) (same (first - 1) e) (rw (← e) n))
 
     pub unit_many : most_grouped ≤ i - first → UnitBefore ws known i (record { first = i; base = 0 })

@@ -90,7 +90,7 @@ unit_last ws i h = rw (unit_is, from_link ws i (omega arith), from_end ws (i + 1
 
 pub unit_more : (ws : List ℕ) (i : ℕ) → i + 1 < record_count ws →
     unit_at ws i ≡
-        cond (same_group (rec_at ws i) (rec_at ws (i + 1))) (extended (alone (rec_at ws i)) (unit_at ws (i + 1)))
+    cond (same_group (rec_at ws i) (rec_at ws (i + 1))) (extended (alone (rec_at ws i)) (unit_at ws (i + 1)))
     (alone (rec_at ws i))
 unit_more ws i h =
     let s = unit_step ws (i + 1) h in

@@ -10,7 +10,7 @@ use rules::layout::{FINAL, FLUSH, SHORT};
 use rules::{Gap, excess, unpack};
 
 // A number for each stage: the amounts of a line, or what of them the gaps up to one have taken.
-#[derive(Drop)]
+#[derive(Clone, Copy)]
 pub(crate) struct Stages {
     pub shrink1: u32,
     pub shrink2: u32,
@@ -20,7 +20,7 @@ pub(crate) struct Stages {
 
 // What each unit of capacity takes of a line's amounts, in parts. A line shrinks or stretches, never both: the
 // first and second stage are those of the one or of the other.
-#[derive(Drop)]
+#[derive(Clone, Copy)]
 pub(crate) struct Rates {
     pub shrinks: bool,
     pub first: u64,

@@ -6,7 +6,7 @@ use rules::{added, least_of};
 
 // A line that starts with some record: the record after it, where its units would end if they stood solid, and what
 // its gaps add up to, in one word. Where no line fits, `end` is its first record.
-#[derive(Drop)]
+#[derive(Clone, Copy)]
 pub(crate) struct LineSums {
     pub end: usize,
     pub solid: u32,
@@ -15,7 +15,7 @@ pub(crate) struct LineSums {
 
 // How many lines there are, and how many records; or the record from which on no line fits, and how many lines stand
 // before it.
-#[derive(Drop)]
+#[derive(Clone, Copy)]
 pub(crate) struct Stop {
     pub lines: usize,
     pub place: usize,

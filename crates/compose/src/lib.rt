@@ -1,4 +1,6 @@
 // From a paragraph's record words to its lines and places.
+#![tactic(auto)]
+
 mod adjustment;
 mod breaking;
 mod checks;

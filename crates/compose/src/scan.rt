@@ -11,7 +11,7 @@ use rules::layout::MOST_RECORDS;
 use rules::{Entry, class_index, class_table, entry_words, plain_ok, spacing_table};
 
 // Units whose metrics are filled: the first record of the first of them, and its class index.
-#[derive(Drop)]
+#[derive(Clone, Copy)]
 pub(crate) struct UnitDone {
     pub first: usize,
     pub index: usize,

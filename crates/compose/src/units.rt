@@ -18,7 +18,7 @@ use rules::limits::MOST_GROUPED;
 use rules::{Entry, Joint, Side, class_index, joint_between};
 
 // A unit by its first record and its base total.
-#[derive(Drop)]
+#[derive(Clone, Copy)]
 pub(crate) struct UnitSums {
     pub first: usize,
     pub base: u32,

@@ -1,5 +1,7 @@
 // Three clinics share a sheet: they take slots, import a dose note and an aftercare note with ruby, change a dose, and
 // give slots back. Some calls are refused.
+#![tactic(auto)]
+
 mod columns;
 mod lines;
 mod markup;

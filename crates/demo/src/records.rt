@@ -17,7 +17,7 @@ pub(crate) fn slot_words(sheet: &[u32], slot: SlotNumber) -> &[u32] {
 }
 
 // The records of a line: from `first` up to `end`.
-#[derive(Drop)]
+#[derive(Clone, Copy)]
 pub(crate) struct Line {
     pub(crate) first: u32,
     pub(crate) end: u32,

@@ -73,7 +73,7 @@ fn print_refused_at(number: u32, place: usize) {
 }
 
 // The calls whose answer is a number and a place.
-#[derive(Drop)]
+#[derive(Clone, Copy)]
 pub(crate) enum Call {
     SetUp,
     Take,

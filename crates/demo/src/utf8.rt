@@ -4,7 +4,7 @@ ghost use Rattle.demo.specs.Utf8.{Encodes};
 ghost use Rattle.leaflet.specs.Utf8.{more as moreOf};
 
 // A character's bytes, and how many of the four there are.
-#[derive(Drop)]
+#[derive(Clone, Copy)]
 pub(crate) struct Character {
     pub(crate) bytes: [u8; 4],
     pub(crate) count: usize,

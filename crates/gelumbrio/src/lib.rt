@@ -1,5 +1,7 @@
 // The calls for programs in C and Rust. A slice passes as a pointer, then its length in words, or in bytes where it is
 // text. The header that declares them is include/gelumbrio.h.
+#![tactic(auto)]
+
 ghost use Rattle.std.specs.Prelude.{◌≡◌, cond};
 ghost use Rattle.lists.specs.Lists.{in_list, class_of};
 ghost use Rattle.rules.specs.Groups.{ruby_place};
@@ -69,7 +71,7 @@ pub extern "C" fn gelumbrio_import(
 #[unsafe(no_mangle)]
 pub extern "C" fn gelumbrio_read_number(sheet: &[u32], caller: Clinic, slot: SlotNumber) -> u32
     ensures number { result ≡ read_number sheet.now caller.0 slot.0 }
-    ensures kept { sheet.now ≡ sheet.now }
+    ensures kept { sheet.exit.now ≡ sheet.entry.now }
 {
     sheet::read_number(sheet, caller, slot)
 }
@@ -78,7 +80,7 @@ pub extern "C" fn gelumbrio_read_number(sheet: &[u32], caller: Clinic, slot: Slo
 #[unsafe(no_mangle)]
 pub extern "C" fn gelumbrio_read(sheet: &[u32], caller: Clinic, slot: SlotNumber) -> Part
     ensures part { (result.start, result.end) ≡ read_part sheet.now caller.0 slot.0 }
-    ensures kept { sheet.now ≡ sheet.now }
+    ensures kept { sheet.exit.now ≡ sheet.entry.now }
 {
     sheet::read_part(sheet, caller, slot)
 }

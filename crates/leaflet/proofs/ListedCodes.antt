@@ -44,6 +44,7 @@ some_list c = (λ h. (class_of c, own_list c h), λ b. rw (ne_eqb (class_of c) 0
 -- a class that has a list is one of the eighteen
 among_classes : {c : ℕ} {rs : List Range} (ls : List ClassList) → Among (list c rs) ls →
     is_in c (map class_in ls) ≡ true
+among_classes {c = c} {rs = rs} mathlib.Core.List.[] x' = elim x' [ ]
 among_classes {c} (l ∷ ls) among_here = rw (eq-eqb c c refl)
 among_classes {c} (list d rs ∷ ls) (among_later a) = rw (among_classes ls a) (or-true (eqb c d))
 

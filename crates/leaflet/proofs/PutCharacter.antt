@@ -89,7 +89,7 @@ module _ {d : List ℕ} {i : ℕ} (s : ℕ) (q : Spot) (k c : ℕ) where
     pub put_put : {a g : ℕ} {e : List ℕ} → (class ≡ 0 → ⊥) → record_length ≤ room - i → a ≡ advance_of class s →
         g ≡ in_group q k →
         e ≡ paste d i (c ∷ class ∷ s ∷ a ∷ g ∷ 0 ∷ []) record_length →
-            Putting d e i s q k c (NextAt (i + record_length))
+        Putting d e i s q k c (NextAt (i + record_length))
     unfolding step words_of kept record_words
     put_put z h e₁ e₂ f =
         let p : plain_char c ≡ true = sym (plain_known c known) ∙ rw (ne_eqb class 0 z) in

@@ -69,7 +69,7 @@ module _ {s : ℕ} {all out : List ℕ} where
       let z = h.settled e in
       let upto : take i out ≡ take g out
       = h.there ∙ ap (λ b. take g out ++ record_words (map (record_of s (as_word k) 0) b)) z
-          ∙ append-nil (take g out) in
+      ∙ append-nil (take g out) in
       ap (λ v. v ++ record_words (written s q k (due q n is) is)) upto
       ∙ ap (λ b. take g out ++ record_words (map (record_of s (as_word k) (as_word (due q n is))) b
       ++ written s q k (due q n is) is)) (sym z)

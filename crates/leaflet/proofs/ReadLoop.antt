@@ -132,7 +132,7 @@ module _ {bs : List ℕ} {size : ℕ} where
     pub loop_tag : {r : Found} (v : TagEnum) (w : ℕ) {t : Step} (p : SpotEnum) {e : List ℕ} (k' n' g' : ℕ) →
         FoundAt bs at (next (drop at bs)) r → at < length bs → r ≡ Markup v w →
         step_of t ≡ step q (tag (tag_of v)) → t ≡ To p → k' ≡ if_ruby (tag_of v) (suc k) k →
-            n' ≡ if_ruby (tag_of v) 0 n →
+        n' ≡ if_ruby (tag_of v) 0 n →
         e ≡ if_rt_end (tag_of v) (rubied_to g i (as_word n) out) out → g' ≡ if_rt_end (tag_of v) i g →
         Loop bs size e (at + w) (spot_of p) k' n' i g'
     loop_tag v w p k' n' g' f h z t y e₁ e₂ e₃ e₄ =

@@ -87,8 +87,8 @@ right (r ∷ rs) = right_row r && right rs
 unfoldable pub computed : Unit {0}
 unfolding
     lists in_list class_of code_ok advance_kind record_words utf8 tag_bytes item_bytes listed text_char plain_char
-        as_word
+    as_word
     advance_of records_after two three four next_char strip next_tag next step scan fault_in items_of gathered parts_in
-        read
+    read
     words_in
 computed = tt

@@ -1,4 +1,6 @@
 // Document 02, request 05: UTF-8 text with ruby, rt and rp, read into the words of records.
+#![tactic(auto)]
+
 mod ahead;
 mod characters;
 mod groups;

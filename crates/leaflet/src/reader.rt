@@ -10,7 +10,7 @@ use crate::records::{Put, ROOM, as_word, put_character};
 use crate::spots::{Spot, Step, after_char, after_tag, is_outside, past_character};
 
 // Where the item at an offset leads.
-#[derive(Drop)]
+#[derive(Clone, Copy)]
 pub(crate) enum ItemStep {
     // no item that may stand there
     Stopped,
@@ -19,7 +19,7 @@ pub(crate) enum ItemStep {
 }
 
 // How what is left of a text ends.
-#[derive(Drop)]
+#[derive(Clone, Copy)]
 pub(crate) enum Outcome {
     Whole,
     // the offset that answer 17 names
@@ -27,7 +27,7 @@ pub(crate) enum Outcome {
 }
 
 // What a text is read as.
-#[derive(Drop)]
+#[derive(Clone, Copy)]
 pub enum Reading {
     // the offset that answer 17 names
     Fault(usize),

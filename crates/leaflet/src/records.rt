@@ -68,7 +68,7 @@ fn put_record(words: &mut [u32], i: usize, c: u32, class: u32, size: u32, advanc
 }
 
 // What came of a character.
-#[derive(Drop)]
+#[derive(Clone, Copy)]
 pub(crate) enum Put {
     // the character may not stand at this spot
     Refused,

@@ -8,7 +8,7 @@ ghost use Rattle.leaflet.specs.Written.{toward, in_rt};
 
 use crate::characters::{is_text_char, plain_class};
 
-#[derive(Drop)]
+#[derive(Clone, Copy)]
 pub(crate) enum Tag {
     Ruby,
     RubyEnd,
@@ -18,7 +18,7 @@ pub(crate) enum Tag {
     RpEnd,
 }
 
-#[derive(Drop)]
+#[derive(Clone, Copy)]
 pub(crate) enum Spot {
     Outside,
     // after <ruby>, and in the base text
@@ -40,7 +40,7 @@ pub(crate) enum Spot {
     Closing,
 }
 
-#[derive(Drop)]
+#[derive(Clone, Copy)]
 pub(crate) enum Step {
     To(Spot),
     Refused,

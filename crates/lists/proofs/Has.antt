@@ -35,6 +35,7 @@ pub has_code_holds : (k : ℕ) (rs : List Range) → Has k rs → has_code k rs 
 has_code_holds k rs h = at rs h.there
   where
     at : (rs : List Range) → Among (range h.first h.last) rs → has_code k rs ≡ true
+    at [] x' = elim x' [ ]
     at (r ∷ rs) among_here = rw (le-leb h.first k h.low, le-leb k h.last h.high)
     at (r ∷ rs) (among_later m) = rw (at rs m) (or-true (in_range k r))
 
@@ -56,5 +57,6 @@ pub belong_lists : (c k : ℕ) (ls : List ClassList) → Belongs c k ls → in_l
 belong_lists c k ls b = at ls b.own
   where
     at : (ls : List ClassList) → Among (list c b.ranges) ls → in_lists c k ls ≡ true
+    at [] x' = elim x' [ ]
     at (list n rs ∷ ls) among_here = rw (eq-eqb c c refl, has_code_holds k b.ranges b.has)
     at (list n rs ∷ ls) (among_later m) = rw (at ls m) (or-true (eqb c n && has_code k rs))

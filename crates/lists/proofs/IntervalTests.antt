@@ -22,7 +22,7 @@ abbrev pub agree : (ℕ → List ℕ) → ℕ → ℕ → List ClassList → Boo
 agree f zero lo ls = same (classes_with lo ls) (f lo)
 agree f (suc d) lo ls =
     agree f d lo (lists_meeting lo (two_to d) ls)
-        && agree f d (lo + two_to d) (lists_meeting (lo + two_to d) (two_to d) ls)
+    && agree f d (lo + two_to d) (lists_meeting (lo + two_to d) (two_to d) ls)
 
 pub agree_at : (f : ℕ → List ℕ) (d lo : ℕ) (ls : List ClassList) → agree f d lo ls ≡ true → (k : ℕ) → lo ≤ k →
     k < lo + two_to d → classes_with k ls ≡ f k
@@ -54,7 +54,7 @@ pub agrees_at : (f : ℕ → List ℕ) (m d lo : ℕ) (ls : List ClassList) → 
 agrees_at f zero d lo ls e k h g = absurd (omega arith)
 agrees_at f (suc m) d lo ls e k h g =
     let both =
-        (and-eq-true_iff (agree f d lo (lists_meeting lo (two_to d) ls)) (agrees f m d (lo + two_to d) ls)).0 e in
+    (and-eq-true_iff (agree f d lo (lists_meeting lo (two_to d) ls)) (agrees f m d (lo + two_to d) ls)).0 e in
     elim (ordered k (lo + two_to d)) [
       | inl n ↦
           sym (meeting_classes lo (two_to d) k h n ls) ∙ agree_at f d lo (lists_meeting lo (two_to d) ls) both.0 k h n

@@ -21,6 +21,7 @@ ascending lo (list n rs ∷ ls) = leb lo n && ascending (suc n) ls
 
 from_on : (lo : ℕ) (ls : List ClassList) → ascending lo ls ≡ true → (c : ℕ) (rs : List Range) → Among (list c rs) ls →
     lo ≤ c
+from_on lo [] e c rs x'' = elim x'' [ ]
 from_on lo (list n qs ∷ ls) e c rs among_here =
     leb-true lo n ((and-eq-true_iff (leb lo n) (ascending (suc n) ls)).0 e).0
 from_on lo (list n qs ∷ ls) e c rs (among_later m) =

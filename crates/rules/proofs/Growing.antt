@@ -41,6 +41,8 @@ unit_grows u v es p q = rw (p, q) (omega (arith, advances_grow (whole u) es))
 grown_wider : {u v : TextUnit} {us vs : List TextUnit} → Grown (u ∷ us) (v ∷ vs) → smallest u us ≤ smallest v vs
 unfolding smallest
 grown_wider {vs} (grown_last {l = u} {k = v} es p q) = omega (arith, unit_grows u v es p q, wider v [] vs)
+grown_wider (grown_more {l = l} {ls = []} {ks = ks} g) = elim g [ ]
+grown_wider (grown_more {l = l} {ls = w ∷ us} {ks = []} g) = elim g [ ]
 grown_wider {u} (grown_more {ls = w ∷ us} {ks = v ∷ vs} g) =
     rw (gap_alike u v w (grown_first g)) (omega (arith, grown_wider g))
 
@@ -68,6 +70,8 @@ pub record FirstRun (us vs : List TextUnit) : Type 0 where
 run_grows : {u v : TextUnit} {us vs : List TextUnit} → Linked forbidden_between u us → Grown (u ∷ us) (v ∷ vs) →
     FirstRun (u ∷ us) (v ∷ vs)
 unfolding cut
+run_grows {vs = vs} (linked_one {a = a}) (grown_more g) = elim g [ ]
+run_grows {vs = []} (linked_more {a = u} {b = w} {bs = bs} e h) (grown_more g) = elim g [ ]
 run_grows linked_one (grown_last {k = v} {ks = vs} es p q) =
     let f = cut_first forbidden_between v vs in
     record {

@@ -56,7 +56,7 @@ module _ (m x : ℕ) (rs : List Rec) where
   judged_passes k h e =
       let r = no_breaking m x (units rs) in
       let p = by_passes (bad_record 0 rs) (not_listed 0 rs) (group_fault rs) r (length (compose m x (units rs))) k h e
-          in
+      in
       record { records = p.0; listed = p.1; groups = p.2 }
 
   pub judged_0 : (judged m x rs).number ≡ 0 →

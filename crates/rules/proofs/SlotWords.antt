@@ -43,7 +43,9 @@ records_after p i (r ∷ rs) ws e =
     let at₀ : get_or (p ++ l) (6 * i) 0 ≡ r.code = rw add-zero at (at 0) in
     let one : rec_at (p ++ l) i ≡ r = rw (at₀, at 1, at 2, at 3, at 4, at 5) in
     let longer : length (p ++ w) ≡ 6 * suc i = omega (arith, length-append p w) in
-    cons_path one (rw (← append_assoc p w (record_words rs ++ ws)) (records_after (p ++ w) (suc i) rs ws longer))
+    let rest : records ((p ++ w) ++ (record_words rs ++ ws)) (suc i) (length rs) ≡ rs =
+        records_after (p ++ w) (suc i) rs ws longer in
+    cons_path one (rw append_assoc at rest)
 
 -- the records of a slot's record words, whatever follows them
 pub records_of_words : (rs : List Rec) (ws : List ℕ) → records (record_words rs ++ ws) 0 (length rs) ≡ rs

@@ -31,6 +31,6 @@ unfolding lists in_list joined cut first_failing zeros code_ok classes class_ok 
     line_words slot_words judged sound splice slot_rows edit_slot starts holding edit_line first_line resumed report
     lines_redone entry_rows entry_answer on_slot edit read_rows read_number read_start read_length read_words bad_slot
     fresh_slots set_up_rows set_up_answer set_up entries agrees cell_of break_of joint_cell spacing_table packed
-        unpacked
+    unpacked
     entry_words
 computed = tt

@@ -6,7 +6,7 @@ ghost use Rattle.rules.specs.Tables.{kind_numbered, class_table, Classed};
 use crate::basics::as_number;
 
 // A class's place among the eighteen, from 0, and the number of its kind of advance.
-#[derive(Drop)]
+#[derive(Clone, Copy)]
 pub(crate) struct ClassEntry {
     pub index: u32,
     pub kind: u32,

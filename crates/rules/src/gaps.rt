@@ -16,7 +16,7 @@ use crate::spacing::{Entry, FIRST_FORBIDDEN};
 use lists::classes::MIDDLE_DOT;
 
 // The space between two units, and its capacity at each stage of adjustment.
-#[derive(Drop)]
+#[derive(Clone, Copy)]
 pub struct Gap {
     pub space: u32,
     pub shrink1: u32,
@@ -26,7 +26,7 @@ pub struct Gap {
 }
 
 // What stands between two units: the gap in one word, and 1 where the break is forbidden, else 0.
-#[derive(Drop)]
+#[derive(Clone, Copy)]
 pub struct Joint {
     pub gap: u64,
     pub forbidden: u32,

@@ -9,7 +9,7 @@ use crate::limits::{LARGEST_BASE, MOST_RUBY};
 use crate::records::size_ok;
 
 // What of a unit its neighbours see.
-#[derive(Drop)]
+#[derive(Clone, Copy)]
 pub struct Side {
     pub class: u32,
     pub size: u32,
@@ -18,7 +18,7 @@ pub struct Side {
 
 // The answer of ruby place: 0 and an offset, or 8 and 0.
 #[repr(C)]
-#[derive(Drop)]
+#[derive(Clone, Copy)]
 pub struct RubyPlace {
     pub number: u32,
     pub offset: u32,

@@ -1,4 +1,6 @@
 // The leaf functions of the rules, a module to a section of document 01.
+#![tactic(auto)]
+
 mod answer;
 mod basics;
 mod breaks;

@@ -10,7 +10,7 @@ use crate::classes::{CLASS_COUNT, HALF_SIZE, TO_SIZE, TO_TWICE, class_entry, kin
 use crate::limits::{HIGHEST_CODE, HIGHEST_GROUP, LARGEST_SIZE, LEAST_SIZE, MOST_RUBY, SIZE_STEP};
 use lists::classes::{HIRAGANA, IDEOGRAPHIC, KATAKANA};
 
-#[derive(Drop)]
+#[derive(Clone, Copy)]
 pub struct Record {
     pub code: u32,
     pub class: u32,

@@ -1,6 +1,6 @@
 -- Each call on a sheet that holds a well-formed book does what the book does. Assumes nothing.
 use mathlib.Core.Path.{◌≡◌, sym, ap, ◌∙◌}
-use Prim.Native.Nat.{ℕ, ◌-◌, ◌/◌, ◌<◌}
+use Prim.Native.Nat.{ℕ, ◌/◌, ◌<◌}
 use native.Mathlib.Omega.{arith}
 use mathlib.Core.List.{List}
 use mathlib.Core.Logic.{inl, inr}
@@ -130,7 +130,7 @@ module _ (n : ℕ) (b : List BookSlot) (g : WellFormed n b) where
 
     on_slots : (q : SlotCall) →
         on_slot (refusal q) (encode b) caller k (in_slot q) ≡
-            in_words (on_book_slot (refusal q) n caller k (in_book q) b)
+        in_words (on_book_slot (refusal q) n caller k (in_book q) b)
     unfolding on_slot on_book_slot
     on_slots q =
         elim (tested (eqb first.number 0)) [

@@ -21,6 +21,7 @@ use Rattle.sheet.proofs.BookSequences.{begins_book, refused_book, remains, whole
 use Rattle.sheet.proofs.BookHistories.{set_up_follows, sequence_follows}
 use Rattle.sheet.proofs.AnyCall.{refused_unchanged, step_length}
 use Rattle.sheet.proofs.Demand3.{SetUpRun, CallRun, set_up_run, call, before, after, reply, Chained, final}
+use Rattle.sheet.proofs.Demand3.{take_run, give_back_run, edit_run, import_run, read_run, read_part_run}
 use Rattle.sheet.proofs.Demand3.{booked, BySingleEdit, Begun, accepted_first, refused_first, AsBooked}
 use Rattle.sheet.proofs.Runs.{clinics, measures, indents}
 use Rattle.sheet.proofs.RunSteps.{told, runs_are}
@@ -94,12 +95,26 @@ kept_refused ws u rs z h rest =
     }
 
 kept : (ws : List ℕ) (rs : List CallRun) → Begun rs → Chained ws rs → Kept ws rs
+kept ws [] b h = elim b [ ]
+kept ws (take_run _ ∷ rs) b h = elim b [ ]
+kept ws (give_back_run _ ∷ rs) b h = elim b [ ]
+kept ws (edit_run _ ∷ rs) b h = elim b [ ]
+kept ws (import_run _ ∷ rs) b h = elim b [ ]
+kept ws (read_run _ ∷ rs) b h = elim b [ ]
+kept ws (read_part_run _ ∷ rs) b h = elim b [ ]
 kept ws (set_up_run u ∷ rs) (accepted_first z) h = kept_accepted ws u rs z h
 kept ws (set_up_run u ∷ rs) (refused_first z b) h = kept_refused ws u rs z h (kept ws rs b)
 
 -- the book follows the histories that its own replies tell, on a sheet of n words
 book_follows : (n : ℕ) (ws : List ℕ) (rs : List CallRun) → Begun rs → Chained ws rs → length ws ≡ n → (k : ℕ) →
     k < n / slot_length → Follows (book_at (booked n rs).1 k) (history_from k (anew 0) (map call rs) (booked n rs).0)
+book_follows n ws [] b h e k within = elim b [ ]
+book_follows n ws (take_run _ ∷ rs) b h e k within = elim b [ ]
+book_follows n ws (give_back_run _ ∷ rs) b h e k within = elim b [ ]
+book_follows n ws (edit_run _ ∷ rs) b h e k within = elim b [ ]
+book_follows n ws (import_run _ ∷ rs) b h e k within = elim b [ ]
+book_follows n ws (read_run _ ∷ rs) b h e k within = elim b [ ]
+book_follows n ws (read_part_run _ ∷ rs) b h e k within = elim b [ ]
 book_follows n ws (set_up_run u ∷ rs) (accepted_first z) h e k within =
     let ok = sym (same_number (set_up_said u n (ap length h.0 ∙ e))) ∙ z in
     let w = begins_book n (clinics u) (measures u) (indents u) ok [] in

@@ -97,7 +97,7 @@ module _ (ws : List ℕ) (caller k place deleted : ℕ) (inserted : List ℕ) wh
   -- past the rows 1 to 7 the answer is that of the new records
   past_7 : (entry_answer ws caller k).number ≡ 0 →
       (first_of (slot_rows before place deleted inserted) (says 0 0)).number ≡ 0 →
-          out.0.number ≡ (judged m x new).number
+      out.0.number ≡ (judged m x new).number
   unfolding slot_rows edit_slot
   past_7 e r =
       let rows = slot_rows before place deleted inserted in

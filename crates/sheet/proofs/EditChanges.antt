@@ -155,7 +155,7 @@ module _ (ws : List ℕ) (caller k place deleted : ℕ) (inserted : List ℕ) wh
       let clinic : clinic_of (slot_at out.1 k) ≡ clinic_of before
       = ap clinic_of s ∙ ap (λ (t : Setting). t.clinic) (slot_setting (setting_of before) rs) in
       let in_use : in_use_of (slot_at out.1 k) ≡ in_use_of before = ap in_use_of s
-          ∙ slot_in_use (setting_of before) rs in
+      ∙ slot_in_use (setting_of before) rs in
       let entry_again : entry_answer out.1 caller k ≡ entry_answer ws caller k
       = entry_alike out.1 ws caller k (on_length as_edit ws caller k here whole) (λ h. clinic) (λ h l o. in_use) in
       let lines : line_count_of (slot_at out.1 k) ≤ most_records

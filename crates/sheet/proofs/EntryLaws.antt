@@ -12,13 +12,18 @@ use lib.Seq.{get_or-take, get_or-drop, take-take, drop-drop}
 use borrow.Rule.Slice.PartMut.{put_mid}
 use borrow.Author.Tests.{leb-false, le-leb, lt-leb}
 use borrow.Author.Tests.{eqb-true, eqb-false, eq-eqb, ne_eqb, not-false}
-use Rattle.rules.specs.Basics.{within, first_of}
+use Rattle.rules.specs.Basics.{first_of}
 use Rattle.rules.specs.Layout.{slot_length, in_use_at}
 use Rattle.rules.specs.Sheet.{clinic_of, in_use_of, slot_count, length_ok, slot_at, with_slot}
 use Rattle.rules.specs.Refusals.{Answer, says, EditAnswer, edit_says, as_edit, Outcome, entry_rows, entry_answer}
 use Rattle.rules.specs.Refusals.{on_slot}
-use Rattle.sheet.proofs.Tables.{passed}
+use Rattle.sheet.proofs.Tables.{passed, same_number}
 use Rattle.sheet.proofs.Lengths.{or_left, or_right, Whole, whole}
+
+-- an answer 0, as the program makes it
+pub entry_zero : (ws : List ℕ) (caller k : ℕ) {n p : ℕ} → says n p ≡ entry_answer ws caller k → n ≡ 0 →
+    (entry_answer ws caller k).number ≡ 0
+entry_zero ws caller k e z = same_number (sym e) ∙ z
 
 -- word j of slot k, in the sheet
 pub word_at : (ws : List ℕ) (k j : ℕ) → j < slot_length → get_or (slot_at ws k) j 0 ≡ get_or ws (slot_length * k + j) 0
@@ -41,7 +46,7 @@ pub part_of_slot : (ws : List ℕ) (k j n : ℕ) → j + n ≤ slot_length →
     take n (drop (slot_length * k + j) ws) ≡ take n (drop j (slot_at ws k))
 part_of_slot ws k j n h =
     ap (take n) (sym (drop-drop j (slot_length * k) ws))
-        ∙ sym (take_within n j slot_length (drop (slot_length * k) ws) h)
+    ∙ sym (take_within n j slot_length (drop (slot_length * k) ws) h)
 
 -- what these rows leave of a call on slot k
 pub record EntryPassed (ws : List ℕ) (caller k : ℕ) : Type 0 where

@@ -116,7 +116,7 @@ module _ (ws : List ℕ) (caller k : ℕ) where
   give_empties z =
       let y = reaches (on_cases (λ a. a) ws caller k give_back_slot) z in
       slot_is_inside (λ a. a) ws caller k give_back_slot (keeps gives_back).whole y
-          ∙ given_emptied (slot_at ws k) (inside y)
+      ∙ given_emptied (slot_at ws k) (inside y)
     where
       reaches : {o : Outcome Answer} → Done (λ a. a) ws caller k give_back_slot o → o.0.number ≡ 0 →
           (entry_answer ws caller k).number ≡ 0

@@ -67,7 +67,7 @@ module _ (u : ImportRun) where
     abbrev its_words : Bor (List ℕ)
     its_words =
         let t = u.args.1.1.1.1.0 in
-        record { ref_ptr = t.ptr; ghost_name = t.name; now = record_words (imported_records (size u) (reading ps)) }
+        record { ref_ptr = t.ref_ptr; now = record_words (imported_records (size u) (reading ps)) }
 
     abbrev its_edit : EditRun
     its_edit =

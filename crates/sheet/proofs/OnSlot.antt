@@ -1,7 +1,7 @@
 -- Laws of a call on one slot of a sheet, whatever it does there: the words that it leaves alone, that the sheet keeps
 -- its length, and that a refused call changes nothing. Every call on a slot is one of these. Assumes nothing.
 use mathlib.Core.Path.{◌≡◌, refl, ap, ◌∙◌}
-use Prim.Native.Nat.{ℕ, ◌+◌, ◌-◌, ◌*◌, ◌≤◌}
+use Prim.Native.Nat.{ℕ, ◌+◌, ◌*◌, ◌≤◌}
 use native.Mathlib.Omega.{arith}
 use mathlib.Core.Bool.{cond}
 use mathlib.Core.List.{List}

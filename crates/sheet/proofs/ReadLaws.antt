@@ -10,14 +10,14 @@ use lib.ListN.{length, get_or, take, drop, length-drop}
 use lib.Seq.{length-take-le}
 use borrow.Author.Tests.{ltb-false, lt-ltb, le-ltb}
 use borrow.Author.Tests.{eqb-true, eqb-false, eq-eqb, ne_eqb}
-use Rattle.rules.specs.Basics.{within, first_of}
+use Rattle.rules.specs.Basics.{first_of}
 use Rattle.rules.specs.Layout.{most_records, line_length, slot_length, line_count_at, in_use_at, lines_at}
 use Rattle.rules.specs.Sheet.{line_count_of, in_use_of, slot_at}
 use Rattle.rules.specs.Refusals.{says, entry_rows, entry_answer}
 use Rattle.rules.specs.Refusals.{read_rows, read_number, read_start, read_length, read_part, read_words}
 use Rattle.rules.proofs.Decisions.{tested}
 use Rattle.sheet.proofs.Tables.{same_number, then_table}
-use Rattle.sheet.proofs.Lengths.{or_left, or_right, whole}
+use Rattle.sheet.proofs.Lengths.{or_left, or_right}
 use Rattle.sheet.proofs.EntryLaws.{word_at, in_use_word, part_of_slot, EntryPassed, entry_passed}
 
 module _ (ws : List ℕ) (caller k : ℕ) where

@@ -1,6 +1,6 @@
 -- What runs of the calls do is what the definitions say: their contracts. Assumes nothing.
 use mathlib.Core.Path.{◌≡◌, refl, sym, ap, ◌∙◌}
-use Prim.Native.Nat.{ℕ, ◌-◌}
+use Prim.Native.Nat.{ℕ}
 use mathlib.Core.List.{List, [], ◌∷◌, map}
 use Rattle.rules.specs.Refusals.{Answer, EditAnswer, as_edit, Outcome, edit_slot, on_slot, edit}
 use Rattle.rules.specs.Refusals.{read_number, read_part, read_words}

@@ -34,7 +34,7 @@ module _ (ws : List ℕ) (k : ℕ) (s : List ℕ) (within : slot_length * k + sl
   pub slot_with : slot_at (with_slot ws k s) k ≡ s
   slot_with =
       ap (take slot_length) (drop_at front (s ++ back) (slot_length * k) length_front)
-          ∙ take_at s back slot_length whole
+      ∙ take_at s back slot_length whole
 
   pub word_with : (i : ℕ) → Outside k i → get_or (with_slot ws k s) i 0 ≡ get_or ws i 0
   word_with i (inl h) =
@@ -61,10 +61,10 @@ pub slot_by_words : (ws vs : List ℕ) (k : ℕ) → length ws ≡ length vs →
 slot_by_words ws vs k e f =
     let count : (us : List ℕ) → length (slot_at us k) ≡ min slot_length (length us - slot_length * k)
     = λ us. length-take slot_length (drop (slot_length * k) us)
-        ∙ ap (min slot_length) (length-drop (slot_length * k) us) in
+    ∙ ap (min slot_length) (length-drop (slot_length * k) us) in
     let few : length (slot_at ws k) ≤ slot_length = omega (arith, count ws) in
     ext_get_or 0 (slot_at ws k) (slot_at vs k)
-        (count ws ∙ ap (λ n. min slot_length (n - slot_length * k)) e ∙ sym (count vs))
+    (count ws ∙ ap (λ n. min slot_length (n - slot_length * k)) e ∙ sym (count vs))
     (λ j h.
     let l : j < slot_length = omega (arith, few) in
     word_at ws k j l ∙ f j l ∙ sym (word_at vs k j l))

@@ -1,7 +1,7 @@
 -- A sheet with one slot taken: what its slots are, and each clinic's own ones; and what a take of two sheets that are
 -- alike for it answers and leaves. Assumes nothing.
 use mathlib.Core.Path.{◌≡◌, sym, ap, ◌∙◌}
-use Prim.Native.Nat.{ℕ, ◌+◌, ◌-◌, ◌*◌, ◌≤◌}
+use Prim.Native.Nat.{ℕ, ◌+◌, ◌*◌, ◌≤◌}
 use native.Mathlib.Omega.{arith}
 use mathlib.Core.Bool.{true, cond}
 use mathlib.Core.List.{List, map}
@@ -64,7 +64,7 @@ module _ (ws : List ℕ) (k : ℕ) (room : slot_length * k + slot_length ≤ len
   unfolding own_slots
   taken_own clinic =
       rw (length-set ws (use_at k) 1)
-          (own_taken (settings ws) (settings taken) clinic k taken_settings 0 (slot_count ws))
+      (own_taken (settings ws) (settings taken) clinic k taken_settings 0 (slot_count ws))
 
 -- What a take leaves ------------------------------------------------------------------------------------------------
 

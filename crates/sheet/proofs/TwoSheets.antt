@@ -36,7 +36,7 @@ unfolding entry_answer entry_rows
 entry_alike ws vs caller k e f g =
     let free : List ℕ → Bool = λ us. eqb (in_use_of (slot_at us k)) 0 in
     four_same (not (length_ok (length ws))) (leb (slot_count ws) k) (foreign ws caller k) (foreign vs caller k)
-        (free ws)
+    (free ws)
     (free vs)
     (λ h. ap (λ c. eqb caller 0 || not (eqb caller c)) (f h))
     (λ h r. let o = not_foreign ws caller k r in ap (λ w. eqb w 0) (g h o.0 o.1))

@@ -9,11 +9,11 @@ use rules::{Answer, says};
 
 // Two kinds of number, so that no call's two can be exchanged.
 #[repr(C)]
-#[derive(Drop)]
+#[derive(Clone, Copy)]
 pub struct Clinic(pub u32);
 
 #[repr(C)]
-#[derive(Drop)]
+#[derive(Clone, Copy)]
 pub struct SlotNumber(pub u32);
 
 // The words of a sheet of as many slots as there may be.

@@ -11,7 +11,7 @@ use slot::{EditAnswer, edit_slot, refusal};
 
 // An import's answer is a type of its own: the byte offset that 17 names may be beyond 32 bits.
 #[repr(C)]
-#[derive(Drop)]
+#[derive(Clone, Copy)]
 pub struct ImportAnswer {
     pub number: u32,
     pub redone: u32,

@@ -1,4 +1,6 @@
 // The calls on a sheet, and ruby place.
+#![tactic(auto)]
+
 mod editing;
 mod entry;
 mod importing;

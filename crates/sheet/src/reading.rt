@@ -11,7 +11,7 @@ const MOST_LINES: u32 = MOST_RECORDS as u32;
 // The number of a read: 0, or why it is refused.
 pub fn read_number(sheet: &[u32], caller: Clinic, slot: SlotNumber) -> u32
     ensures number { result ≡ read_number sheet.now caller.0 slot.0 }
-    ensures kept { sheet.now ≡ sheet.now }
+    ensures kept { sheet.exit.now ≡ sheet.entry.now }
 {
     let entry = entry_answer(sheet, caller, slot);
     if entry.number != 0 {
@@ -31,7 +31,7 @@ pub fn read_number(sheet: &[u32], caller: Clinic, slot: SlotNumber) -> u32
 
 // A part of the sheet: the words from `start` up to `end`.
 #[repr(C)]
-#[derive(Drop)]
+#[derive(Clone, Copy)]
 pub struct Part {
     pub start: usize,
     pub end: usize,
@@ -40,7 +40,7 @@ pub struct Part {
 // Where a slot's used line words stand. Empty where the read is refused.
 pub fn read_part(sheet: &[u32], caller: Clinic, slot: SlotNumber) -> Part
     ensures part { (result.start, result.end) ≡ read_part sheet.now caller.0 slot.0 }
-    ensures kept { sheet.now ≡ sheet.now }
+    ensures kept { sheet.exit.now ≡ sheet.entry.now }
 {
     let entry = entry_answer(sheet, caller, slot);
     if entry.number == 0 {
@@ -65,7 +65,7 @@ pub fn read(sheet: &[u32], caller: Clinic, slot: SlotNumber) -> &[u32]
     ensures count { length result.now ≡ read_length sheet.now caller.0 slot.0 }
     ensures place { (result.ref_ptr.0 ≡ sheet.entry.ref_ptr.0)
         × (result.ref_ptr.1 ≡ sheet.entry.ref_ptr.1 + 4 * read_start sheet.now caller.0 slot.0) }
-    ensures kept { sheet.now ≡ sheet.now }
+    ensures kept { sheet.exit.now ≡ sheet.entry.now }
 {
     let part = read_part(sheet, caller, slot);
     let start = part.start;

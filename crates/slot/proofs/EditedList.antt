@@ -98,7 +98,7 @@ module _ (s : List ℕ) (p d : ℕ) (ins : List ℕ) (len : length s ≡ slot_le
       let n : 6 * p + length ins + (length (take (6 * count_of s) (drop 8 s)) - 6 * (p + d)) ≡ total = omega arith in
       let f : list ≡ words ++ drop total (zeros records_length) = rw (a, b, c, n) at e in
       let z : drop total (zeros records_length) ≡ zeros (records_length - total) =
-          drop_zeros records_length total room in
+      drop_zeros records_length total room in
       let t : take total list ≡ words =
       ap (λ w. take total w) f ∙ take_at words (drop total (zeros records_length)) total length_words in
       record {

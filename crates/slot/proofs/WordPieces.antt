@@ -21,7 +21,8 @@ to_end w k = take_all (length w - k) (drop k w) (omega (arith, length-drop k w))
 -- a list of at least eight has eight first
 pub eight : (w : List ℕ) → 8 ≤ length w →
     w
-    ≡ get_or w 0 0 ∷ get_or w 1 0 ∷ get_or w 2 0 ∷ get_or w 3 0 ∷ get_or w 4 0 ∷ get_or w 5 0 ∷ get_or w 6 0 ∷ get_or w 7 0 ∷ drop 8 w
+    ≡ get_or w 0 0 ∷ get_or w 1 0 ∷ get_or w 2 0 ∷ get_or w 3 0 ∷ get_or w 4 0 ∷ get_or w 5 0 ∷ get_or w 6 0
+    ∷ get_or w 7 0 ∷ drop 8 w
 eight w h =
     drop-cons w 0 0 (omega arith)
     ∙ ap (λ l. get_or w 0 0 ∷ l)

@@ -23,7 +23,7 @@ const MOST_COUNT: u32 = MOST_RECORDS as u32;
 // A number and a place, as document 01's table of refusals has them for an edit, and the lines composed anew. A
 // refused edit has composed none.
 #[repr(C)]
-#[derive(Drop)]
+#[derive(Clone, Copy)]
 pub struct EditAnswer {
     pub number: u32,
     pub place: u32,

@@ -1,4 +1,6 @@
 // One slot of a sheet: its 2,824 words as a lent slice.
+#![tactic(auto)]
+
 mod edit;
 mod giving;
 mod redone;
