@@ -1,24 +1,32 @@
 //! Builds the proved program as a static library and links it.
 //!
-//! `rt staticlib gelumbrio`, run at the repository's root, leaves target/staticlib/libgelumbrio.a
-//! there. GELUMBRIO_STATICLIB names a library that is already built, and then `rt` is not run.
+//! `rt lib`, run in crates/gelumbrio, proves the program and leaves the library in that crate's out/,
+//! which `rt ci` clears; so a copy is kept in target/staticlib at the repository's root.
+//! GELUMBRIO_STATICLIB names a library that is already built, and then `rt` is not run.
 
 use std::env;
 use std::path::{Path, PathBuf};
 use std::process::Command;
 
 const NAMED: &str = "GELUMBRIO_STATICLIB";
+// Paths in the repository: the crate whose static library it is, where `rt` leaves that, and where it is kept.
+const CRATE: &str = "crates/gelumbrio";
+const MADE: &str = "crates/gelumbrio/out/libgelumbrio.a";
+const KEPT: &str = "target/staticlib/libgelumbrio.a";
+/// What a crate is made of. `rt` itself writes to the folders beside them.
+const SOURCES: [&str; 3] = ["src", "specs", "proofs"];
 /// In bytes.
 const CACHE_LINE: u32 = 64;
 
 fn main() {
     println!("cargo:rerun-if-changed=build.rs");
-    println!("cargo:rerun-if-changed=../../crates");
     println!("cargo:rerun-if-env-changed={NAMED}");
 
+    let root = repository_root();
+    watch(&root);
     let library = match env::var_os(NAMED) {
         Some(path) => named_library(PathBuf::from(path)),
-        None => built_library(&repository_root()),
+        None => built_library(&root),
     };
     link(&library);
 }
@@ -32,6 +40,23 @@ fn repository_root() -> PathBuf {
     }
 }
 
+/// Has cargo build anew where crates change.
+fn watch(root: &Path) {
+    println!("cargo:rerun-if-changed={}", root.join("crates.txt").display());
+    let crates = root.join("crates");
+    let folders = match std::fs::read_dir(&crates) {
+        Ok(folders) => folders,
+        Err(error) => fail(&format!("{} could not be read: {error}.", crates.display())),
+    };
+    for folder in folders.flatten() {
+        for part in SOURCES.map(|part| folder.path().join(part)) {
+            if part.is_dir() {
+                println!("cargo:rerun-if-changed={}", part.display());
+            }
+        }
+    }
+}
+
 fn named_library(path: PathBuf) -> PathBuf {
     if !path.is_file() {
         fail(&format!("{NAMED} names {}, which is not a file.", path.display()));
@@ -41,31 +66,41 @@ fn named_library(path: PathBuf) -> PathBuf {
 }
 
 fn built_library(root: &Path) -> PathBuf {
-    let status = Command::new("rt").args(["staticlib", "gelumbrio"]).current_dir(root).status();
-    match status {
+    match Command::new("rt").arg("lib").current_dir(root.join(CRATE)).status() {
         Err(error) => fail(&format!("The command `rt` could not be run: {error}. Is it on the PATH?")),
         Ok(status) if !status.success() => fail(&format!(
-            "`rt staticlib gelumbrio`, run in {}, ended with {status}; what it said stands above.",
-            root.display()
+            "`rt lib`, run in {}, ended with {status}; what it said stands above.",
+            root.join(CRATE).display()
         )),
         Ok(_) => {}
     }
-    let library = root.join("target/staticlib/libgelumbrio.a");
-    if !library.is_file() {
-        fail(&format!("`rt staticlib gelumbrio` ended well but left no {}.", library.display()));
+    let made = root.join(MADE);
+    if !made.is_file() {
+        fail(&format!("`rt lib` ended well but left no {}.", made.display()));
     }
-    library
+    let kept = root.join(KEPT);
+    if let Some(folder) = kept.parent() {
+        if let Err(error) = std::fs::create_dir_all(folder) {
+            fail(&format!("{} could not be made: {error}.", folder.display()));
+        }
+    }
+    copy(&made, &kept);
+    kept
+}
+
+fn copy(from: &Path, to: &Path) {
+    if let Err(error) = std::fs::copy(from, to) {
+        fail(&format!("{} could not be copied to {}: {error}.", from.display(), to.display()));
+    }
 }
 
 /// Links a copy under the name that the linker looks for, whatever the file is called.
 fn link(library: &Path) {
     let folder = PathBuf::from(env::var_os("OUT_DIR").expect("cargo sets OUT_DIR"));
-    let copy = folder.join("libgelumbrio.a");
-    if let Err(error) = std::fs::copy(library, &copy) {
-        fail(&format!("{} could not be copied: {error}.", library.display()));
-    }
-    align(&copy);
-    println!("cargo:rustc-env=GELUMBRIO_LIBRARY={}", copy.display());
+    let linked = folder.join("libgelumbrio.a");
+    copy(library, &linked);
+    align(&linked);
+    println!("cargo:rustc-env=GELUMBRIO_LIBRARY={}", linked.display());
     println!("cargo:rustc-link-search=native={}", folder.display());
     println!("cargo:rustc-link-lib=static=gelumbrio");
 }
@@ -86,7 +121,7 @@ fn align(library: &Path) {
 fn fail(what: &str) -> ! {
     panic!(
         "\n\nThere is no static library of the proved program to link with.\n{what}\n\
-         The library comes from `rt staticlib gelumbrio` at the repository's root. {NAMED} can name\n\
-         a libgelumbrio.a that is already built; `rt` is not run then.\n\n"
+         The library comes from `rt lib` in {CRATE}. {NAMED} can name a libgelumbrio.a that\n\
+         is already built; `rt` is not run then.\n\n"
     )
 }

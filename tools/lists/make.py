@@ -42,8 +42,8 @@ def spec_file(name, what, classes, lists, more=""):
 -- A range is where the source goes on with the next code point, in the source's own order; its names are the source's.
 -- {MADE}
 -- Assumes nothing.
-use mathlib.Core.List.{{List, [], _∷_}}
-use Rattle·lists·specs.specs.Ranges.{{Range, range, one}}
+use Rattle.std.specs.Prelude.{{List, [], ◌∷◌}}
+use Rattle.lists.specs.Ranges.{{Range, range, one}}
 
 """)
         f.write("\n".join(spec_list(c, lists) for c in classes) + more)
@@ -69,7 +69,7 @@ def match(name, doc, xs):
     arms = "".join(f"        {i} => 0x{x:X},\n" for i, x in enumerate(xs))
     return f"""// {doc}
 pub(crate) fn {name}(n: u32) -> u64
-    ensures {{ λ r. ⌜ r ≡ getD {name}s n 0 ⌝ }}
+    ensures {{ result ≡ get_or {name}s n 0 }}
 {{
     match n {{
 {arms}        _ => 0,
@@ -78,25 +78,24 @@ pub(crate) fn {name}(n: u32) -> u64
 """
 
 
+def answer(name, case, what):
+    goal = f"returns-in{case}"
+    return f"pub {goal} : goal.{goal}\nunfolding {name}s\n{goal} c = {what}\n"
+
+
 def proof(name, n):
-    arms = "".join(f"    (λ c. arm {name}s (c .match .keys{i + 1}))\n" for i in range(n))
-    with open(CRATE + f"proofs/tables/{name}/Proof.antt", "w") as f:
+    arms = [answer(name, f"-{i}", f"arm {name}s c.in-{i}.is") for i in range(n)]
+    past = answer(name, "_default", f"past_arms {name}s c.args.n c.in_default.in_default-own.rest")
+    with open(CRATE + f"proofs/tables/{name}/Answers.antt", "w") as f:
         f.write(f"""\
 -- `lists::tables::{name}` meets its contract: an arm for each number of the table, and 0 past its end.
 -- {MADE}
 -- Assumes nothing.
-use Rattle·lists·specs.specs.Table.{{{name}s}}
-use Rattle·lists·proofs.proofs.Arms.{{arm, past_arms}}
-use Rattle·lists·proofs.proofs.tables.{name}.Statement.{{statement}}
-use Rattle·lists·proofs.proofs.tables.{name}.Tie as tie
+use Rattle.lists.specs.Table.{{{name}s}}
+use Rattle.lists.proofs.Arms.{{arm, past_arms}}
+use Rattle.lists.proofs.tables.{name}.Goals as goal
 
-pub {name}_spec : {{M : Type 1}} → statement M
-unfolding {name}s
-{name}_spec =
-    tie.close
-    (tie.spec
-{arms}    (λ c. past_arms {name}s (c .before .args .n) (c .match .rest)))
-""")
+""" + "\n".join(arms + [past]))
 
 
 def main():
@@ -116,17 +115,15 @@ def main():
 --   blocks    for each 64 code points below 3400 the numbers of their eights, a byte each, the first lowest
 -- {MADE}
 -- Assumes nothing.
-use Prim.Native.Nat.{{ℕ}}
-use mathlib.Core.List.{{List, [], _∷_}}
+use Rattle.std.specs.Prelude.{{ℕ, List, [], ◌∷◌}}
 
 """ + table("blocks", blocks) + "\n" + table("eights", eights))
     with open(CRATE + "src/tables.rt", "w") as f:
         f.write(f"""\
 // The tables: a match on a number with constant arms is one load from read-only memory.
 // {MADE}
-ghost use mathlib.Core.Path.{{_≡_}};
-ghost use lib.ListN.{{getD}};
-ghost use Rattle·lists·specs.specs.Table.{{blocks, eights}};
+ghost use Rattle.std.specs.Prelude.{{◌≡◌, get_or}};
+ghost use Rattle.lists.specs.Table.{{blocks, eights}};
 
 """ + match("block", "For 64 code points, the numbers of their eights, the first lowest.", blocks) + "\n"
                 + match("eight", "The entries of eight code points, the first lowest.", eights))

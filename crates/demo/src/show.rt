@@ -1,19 +1,21 @@
 // What the program writes: texts, answers and lines, in words.
 use crate::numbers::NO_LEAFLET;
 use crate::utf8::encode;
-use libc::STDOUT_FILENO;
 use sheet::{Answer, EditAnswer, ImportAnswer};
 
+// The descriptor of standard output.
+const STDOUT: i32 = 1;
+
 pub(crate) fn say(text: &[u8]) {
-    io::write_all(STDOUT_FILENO, text);
+    io::write_all(STDOUT, text);
 }
 
 pub(crate) fn print_number(n: u32) {
-    io::print_decimal(STDOUT_FILENO, n as u64);
+    io::print_decimal(STDOUT, n as u64);
 }
 
 pub(crate) fn print_count(n: usize) {
-    io::print_decimal(STDOUT_FILENO, n as u64);
+    io::print_decimal(STDOUT, n as u64);
 }
 
 // A number past the last code point shows as a question mark.
