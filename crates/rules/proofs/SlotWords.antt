@@ -44,7 +44,7 @@ records_after p i (r ∷ rs) ws e =
     let one : rec_at (p ++ l) i ≡ r = rw (at₀, at 1, at 2, at 3, at 4, at 5) in
     let longer : length (p ++ w) ≡ 6 * suc i = omega (arith, length-append p w) in
     let rest : records ((p ++ w) ++ (record_words rs ++ ws)) (suc i) (length rs) ≡ rs =
-        records_after (p ++ w) (suc i) rs ws longer in
+    records_after (p ++ w) (suc i) rs ws longer in
     cons_path one (rw append_assoc at rest)
 
 -- the records of a slot's record words, whatever follows them

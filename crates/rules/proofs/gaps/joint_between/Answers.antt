@@ -37,8 +37,7 @@ pub taken-gap-requires : goal.taken-gap-requires
 taken-gap-requires c =
     let cell_is : c.as_number-cell.result ≡ joint_cell ((side_of c.args.l)).class ((side_of c.args.r)).class = c.as_number-cell.ensures ∙ rw (c.requires.spacing_value.0, c.requires.left_value.0, c.requires.left_value.1)
     (cell_at ((side_of c.args.l)).class ((side_of c.args.r)).class c.requires.side_ok.0.class c.requires.side_ok.1.class) in
-    let entry_is : c.as_number-cell.result % 16 ≡ cell ((side_of c.args.l)) ((side_of c.args.r)) = ap (λ n. n % 16) (cell_is) ∙ cell_entry _ _ c.requires.side_ok.0.class c.requires.side_ok.1.class in
-    (
+    let entry_is : c.as_number-cell.result % 16 ≡ cell ((side_of c.args.l)) ((side_of c.args.r)) = ap (λ n. n % 16) (cell_is) ∙ cell_entry _ _ c.requires.side_ok.0.class c.requires.side_ok.1.class in (
       rw (entry_is) (cell_small _ _ c.requires.side_ok.0.class c.requires.side_ok.1.class),
       (size_bounds _ c.requires.side_ok.0.size).most,
       (size_bounds _ c.requires.side_ok.1.size).most,

@@ -33,12 +33,12 @@ overflow_add-result c =
 pub returns-then-ruby_ok : goal.returns-then-ruby_ok
 unfolding ruby_place ruby_offset
 returns-then-ruby_ok c = rw (
-      ← c.ruby_ok.ensures,
-      c.if-ruby_ok.true,
-      c.shift.ensures,
-      c.excess-d.ensures,
-      c.ruby_total.ensures,
-    )
+  ← c.ruby_ok.ensures,
+  c.if-ruby_ok.true,
+  c.shift.ensures,
+  c.excess-d.ensures,
+  c.ruby_total.ensures,
+)
 
 pub returns-else-ruby_ok : goal.returns-else-ruby_ok
 unfolding ruby_place
