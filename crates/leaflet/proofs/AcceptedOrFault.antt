@@ -14,7 +14,8 @@ use Rattle.leaflet.specs.Spots.{Spot, outside, opened, in_base, bare_opened, in_
 use Rattle.leaflet.specs.Spots.{fenced_opened, in_fenced, rp_due, in_last, closing, is_outside}
 use Rattle.leaflet.specs.Reader.{ended, scan, items_of, parts, fault, fault_in, read}
 use Rattle.leaflet.proofs.Decisions.{tested, nil_cons, true_false, no_way}
-use Rattle.leaflet.proofs.Beginnings.{run_spell, run_spelt}
+use Rattle.leaflet.proofs.Runs.{run_spell}
+use Rattle.leaflet.proofs.Beginnings.{run_spelt}
 use Rattle.leaflet.proofs.GatheredParts.{parts_spelt}
 use Rattle.leaflet.proofs.Scans.{Passed, scanned}
 use Rattle.leaflet.proofs.LongestBeginnings.{accepted_end, passed_longest, longest_only, items_again}

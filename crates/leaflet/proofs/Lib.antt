@@ -2,8 +2,9 @@
 -- order.
 -- Small laws that many use.
 pub mod Decisions
--- The markup: a reader's moves, what may follow each, beginnings, and that contents are told by their items.
+-- The markup: a reader's moves and ways, what may follow each, beginnings, and that contents are told by their items.
 pub mod SpotMoves
+pub mod Runs
 pub mod SpotRests
 pub mod Beginnings
 pub mod OneContent

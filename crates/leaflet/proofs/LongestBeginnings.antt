@@ -11,8 +11,8 @@ use Rattle.leaflet.specs.Decoding.{next}
 use Rattle.leaflet.specs.Spots.{Spot, outside}
 use Rattle.leaflet.specs.Reader.{items_of}
 use Rattle.leaflet.proofs.SpotMoves.{Move}
-use Rattle.leaflet.proofs.Beginnings.{Runs, stays, goes, same_end, run_end, run_split, run_spell, begun}
-use Rattle.leaflet.proofs.Beginnings.{beginning}
+use Rattle.leaflet.proofs.Runs.{Runs, stays, goes, run_spell}
+use Rattle.leaflet.proofs.Beginnings.{same_end, run_end, run_split, begun, beginning}
 use Rattle.leaflet.proofs.NextItem.{next_found}
 use Rattle.leaflet.proofs.Elements.{move_element}
 use Rattle.leaflet.proofs.Scans.{item_some, Stops, Passed, move_found}

@@ -33,12 +33,20 @@ use Rattle.rules.specs.Percent.{digit_and_postfix}
 use Rattle.rules.specs.Stable.{Holds, FirstThat, Resumes, used_by, StableEdit}
 use Rattle.rules.specs.SpaceBetween.{offset_of, advance_of, SpaceBetween, Centred, Solid}
 use Rattle.rules.specs.LowestFree.{Found}
+-- tables of cases worked by hand, which come first: a wrong rule is refused by its case
+use Rattle.rules.proofs.WorkedCases.{right}
+use Rattle.rules.proofs.ComposedCases.{rows, cases_hold}
+use Rattle.rules.proofs.PercentCases.{percents, percents_hold}
+use Rattle.rules.proofs.RowCases.{group_rows, group_rows_hold}
+use Rattle.rules.proofs.PairCases.{pairs, ruled, wanted, pairs_hold}
+use Rattle.rules.proofs.ListedCases.{listings, listings_hold}
+use Rattle.rules.proofs.RedoneCases.{edit_rows, edits_right, edit_cases_hold}
+use Rattle.rules.proofs.PoolCases.{takes, answered, wanted_answer, takes_hold, calls, numbered, due, calls_hold}
 -- the laws that prove it, in the order of the claims
 use Rattle.rules.proofs.Decisions.{some_none}
 use Rattle.rules.proofs.Judged.{judged_passes}
 use Rattle.rules.proofs.Listed.{class_in, classes_listed, all_listed, first_not_listed}
 use Rattle.rules.proofs.LineOpenings.{comma_not_at_start, no_line_opens}
-use Rattle.rules.proofs.ListedCases.{listings, listings_hold}
 use Rattle.rules.proofs.Cuts.{cut_maximal, maximal_only, boundary_exact, units_one}
 use Rattle.rules.proofs.GroupRows.{base_within, base_between, base_centred, base_solid}
 use Rattle.rules.proofs.GroupRows.{ruby_within, ruby_between, ruby_centred, ruby_solid}
@@ -58,13 +66,6 @@ use Rattle.rules.proofs.FirstLines.{resumed_first}
 use Rattle.rules.proofs.Resuming.{resumes_exactly}
 use Rattle.rules.proofs.RedoneLines.{edit_stable}
 use Rattle.rules.proofs.OwnSlots.{lowest}
-use Rattle.rules.proofs.WorkedCases.{right}
-use Rattle.rules.proofs.ComposedCases.{rows, cases_hold}
-use Rattle.rules.proofs.PercentCases.{percents, percents_hold}
-use Rattle.rules.proofs.RowCases.{group_rows, group_rows_hold}
-use Rattle.rules.proofs.PairCases.{pairs, ruled, wanted, pairs_hold}
-use Rattle.rules.proofs.RedoneCases.{edit_rows, edits_right, edit_cases_hold}
-use Rattle.rules.proofs.PoolCases.{takes, answered, wanted_answer, takes_hold, calls, numbered, due, calls_hold}
 -- the contracts of the code
 use Rattle.rules.proofs.spacing.spacing_table.Statement as spacing_table_contract
 use Rattle.rules.proofs.spacing.spacing_table.Met as spacing_table_met

@@ -61,26 +61,6 @@ abbrev pub book_after : ℕ → ℕ → List ℕ → BookSlot → BookSlot
 book_after place deleted inserted s =
     cond (eqb (book_answer place deleted inserted s).number 0) (book_edited place deleted inserted s) s
 
--- an edit of an assigned slot in use leaves a sound slot
-pub edited_sound : (place deleted : ℕ) (inserted : List ℕ) (s : BookSlot) → Sound s → (s.setting.clinic ≡ 0 → ⊥) →
-    (s.setting.in_use ≡ 0 → ⊥) → Sound (book_after place deleted inserted s)
-unfolding book_edited book_edit_rows
-edited_sound place deleted inserted s h assigned used =
-    elim (tested (eqb (book_answer place deleted inserted s).number 0)) [
-      | inl e ↦
-          let p = passed 0 (book_edit_rows place deleted inserted s) _ refl (eqb-true _ _ e) in
-          rw e
-          (record {
-            limits = h.limits;
-            use_limits = h.use_limits;
-            unassigned = λ c. absurd (assigned c);
-            unused = λ u. absurd (used u);
-            few = splice_few s.records place deleted inserted p.0.0 p.0.1.1.0;
-            right = p.1;
-          })
-      | inr e ↦ rw e h
-    ]
-
 -- On the slot's words -----------------------------------------------------------------------------------------------
 
 module _ (s : BookSlot) (h : Sound s) where
@@ -134,6 +114,26 @@ module _ (s : BookSlot) (h : Sound s) where
         rw (same_answer, same_words, same_redone)
         (ap (λ w. (reporting a (book_redone place deleted inserted s), w))
         (elim (tested (eqb a.number 0)) [ inl e ↦ rw e | inr e ↦ rw e ]))
+
+-- an edit of an assigned slot in use leaves a sound slot
+pub edited_sound : (place deleted : ℕ) (inserted : List ℕ) (s : BookSlot) → Sound s → (s.setting.clinic ≡ 0 → ⊥) →
+    (s.setting.in_use ≡ 0 → ⊥) → Sound (book_after place deleted inserted s)
+unfolding book_edited book_edit_rows
+edited_sound place deleted inserted s h assigned used =
+    elim (tested (eqb (book_answer place deleted inserted s).number 0)) [
+      | inl e ↦
+          let p = passed 0 (book_edit_rows place deleted inserted s) _ refl (eqb-true _ _ e) in
+          rw e
+          (record {
+            limits = h.limits;
+            use_limits = h.use_limits;
+            unassigned = λ c. absurd (assigned c);
+            unused = λ u. absurd (used u);
+            few = splice_few s.records place deleted inserted p.0.0 p.0.1.1.0;
+            right = p.1;
+          })
+      | inr e ↦ rw e h
+    ]
 
 -- The single edit ---------------------------------------------------------------------------------------------------
 

@@ -3,7 +3,7 @@
 -- takings and givings back among the edits and reads". What demand 3 says of runs of the calls themselves is
 -- proofs/Demand3.antt; the calls on a sheet are specs/OnSheet.antt.
 --
---   book         for each slot its setting, in_use word included, and its records in order
+--   book         for each slot its setting, in-use word included, and its records in order
 --   call         set-up, a take, or a call on a slot by a caller, with its arguments; read and its companion together
 --                are one
 --   slot call    what is done on the slot: edit, import, read or giving back
@@ -85,7 +85,7 @@ fault_of gives_back = none
 abbrev pub with_records : BookSlot → List Rec → BookSlot
 with_records s rs = record { setting = s.setting; records = rs }
 
--- the same slot with another in_use word
+-- the same slot with another in-use word
 abbrev pub used : BookSlot → ℕ → BookSlot
 used s w = record { setting = with_use s.setting w; records = s.records }
 
@@ -106,7 +106,7 @@ book_set_up n clinics measures indents b =
     let a = set_up_answer n clinics measures indents in
     (a, cond (eqb a.number 0) (empty_slots 0 clinics measures indents (n / slot_length)) b)
 
--- "the book keeps the in_use word too": the caller's own slots
+-- "the book keeps the in-use word too": the caller's own slots
 unfoldable pub book_own : ℕ → ℕ → List BookSlot → List OwnSlot
 book_own n caller b = own_among (λ k. (book_at b k).setting) caller 0 (n / slot_length)
 
@@ -218,7 +218,7 @@ pub record History : Type 0 where
   pub in_use : ℕ
   pub changes : List SlotCall
 
--- it starts again, with this in_use word
+-- it starts again, with this in-use word
 abbrev pub anew : ℕ → History
 anew w = record { in_use = w; changes = [] }
 

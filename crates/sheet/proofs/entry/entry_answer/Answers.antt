@@ -19,6 +19,15 @@ returns-then-sheet-first c =
     let right_length = (with_slots (length c.args.sheet.now) c.slot_count.ensures c.if-slot_count-eq0.false).0 in
     said c.says-then-sheet-first.ensures ∙ sym (entry_2 _ _ _ right_length (omega (arith, c.if-sheet-first.true)))
 
+pub returns-then-sheet-first-eq0 : goal.returns-then-sheet-first-eq0
+returns-then-sheet-first-eq0 c =
+    let right_length = (with_slots (length c.args.sheet.now) c.slot_count.ensures c.if-slot_count-eq0.false).0 in
+    let slot_within : c.args.slot.0 < (length c.args.sheet.now) / slot_length =
+    omega (arith, (whole (length c.args.sheet.now) right_length).exact, c.if-sheet-first.false) in
+    said c.says-then-sheet-first-eq0.ensures
+    ∙ sym (entry_14 _ _ _ right_length slot_within (rw clinic_at c.if-caller-sheet.false)
+    (rw in_use_word c.if-sheet-first-eq0.true))
+
 pub returns-then-caller-sheet : goal.returns-then-caller-sheet
 returns-then-caller-sheet c =
     let right_length = (with_slots (length c.args.sheet.now) c.slot_count.ensures c.if-slot_count-eq0.false).0 in
@@ -31,15 +40,6 @@ pub bounds-sheet-first-2 : goal.bounds-sheet-first-2
 bounds-sheet-first-2 c =
     let right_length = (with_slots (length c.args.sheet.now) c.slot_count.ensures c.if-slot_count-eq0.false).0 in
     omega (arith, (whole (length c.args.sheet.now) right_length).exact, c.if-sheet-first.false)
-
-pub returns-then-sheet-first-eq0 : goal.returns-then-sheet-first-eq0
-returns-then-sheet-first-eq0 c =
-    let right_length = (with_slots (length c.args.sheet.now) c.slot_count.ensures c.if-slot_count-eq0.false).0 in
-    let slot_within : c.args.slot.0 < (length c.args.sheet.now) / slot_length =
-    omega (arith, (whole (length c.args.sheet.now) right_length).exact, c.if-sheet-first.false) in
-    said c.says-then-sheet-first-eq0.ensures
-    ∙ sym (entry_14 _ _ _ right_length slot_within (rw clinic_at c.if-caller-sheet.false)
-    (rw in_use_word c.if-sheet-first-eq0.true))
 
 pub returns : goal.returns
 returns c =

@@ -45,13 +45,6 @@ returns-then-count-place-2 c =
     (refuses_5_end _ _ _ _ is_sound c.if-count-place.false
     (omega (arith, c.if-count-place-2.true, c.if-count-place.false)))
 
-pub returns-then-n-ne0 : goal.returns-then-n-ne0
-returns-then-n-ne0 c =
-    let is_sound = sound_stored c.stored_lines-stored.ensures.lines c.if-stored-ne0.false in
-    let within : c.args.place + c.args.deleted ≤ count_of c.args.words.now =
-    omega (arith, c.if-count-place-2.false, c.if-count-place.false) in
-    refusals 6 0 _ _ _ _ _ c.refusal-then-n-ne0.ensures (refuses_6 _ _ _ _ is_sound within c.if-n-ne0.true)
-
 pub returns-then-kept-n-gt-RECORDS_WORDS : goal.returns-then-kept-n-gt-RECORDS_WORDS
 returns-then-kept-n-gt-RECORDS_WORDS c =
     let is_sound = sound_stored c.stored_lines-stored.ensures.lines c.if-stored-ne0.false in
@@ -60,6 +53,13 @@ returns-then-kept-n-gt-RECORDS_WORDS c =
     refusals 7 0 _ _ _ _ _ c.refusal-then-kept-n-gt-RECORDS_WORDS.ensures
     (refuses_7 _ _ _ _ is_sound within c.if-n-ne0.false
     (omega (arith, c.if-kept-n-gt-RECORDS_WORDS.true, c.if-n-ne0.false)))
+
+pub returns-then-n-ne0 : goal.returns-then-n-ne0
+returns-then-n-ne0 c =
+    let is_sound = sound_stored c.stored_lines-stored.ensures.lines c.if-stored-ne0.false in
+    let within : c.args.place + c.args.deleted ≤ count_of c.args.words.now =
+    omega (arith, c.if-count-place-2.false, c.if-count-place.false) in
+    refusals 6 0 _ _ _ _ _ c.refusal-then-n-ne0.ensures (refuses_6 _ _ _ _ is_sound within c.if-n-ne0.true)
 
 pub keep_metrics-metrics-requires : goal.keep_metrics-metrics-requires
 keep_metrics-metrics-requires c =

@@ -10,6 +10,21 @@ use Rattle.slot.proofs.StoredRecords.{fitting, stored_size, stored_paragraph, li
 use Rattle.slot.proofs.StoredRecords.{records_tell, stored_damaged, refused_sound, stored_sound}
 use Rattle.slot.proofs.edit.stored_lines.Goals as goal
 
+pub returns : goal.returns
+returns c =
+    let limits = sym c.limits_ok.ensures ∙ c.if-not-limits_ok.false in
+    let told = records_tell c.args.words.now limits c.if-count-gt-MOST_COUNT.false c.if-words-gt1.false in
+    let p = stored_paragraph c.args.words.now c.requires c.if-count-gt-MOST_COUNT.false in
+    let a =
+    ap (judged (measure_of c.args.words.now) (indent_of c.args.words.now)) (sym p) ∙ c.check-a.ensures.started.answer in
+    record {
+      lines = stored_sound c.args.words.now _ _ _ told a c.if-a-ne0.false
+          (λ j l.
+          c.check-a.ensures.started.first c.if-a-ne0.false j l
+          ∙ ap (λ rs. start j (compose (measure_of c.args.words.now) (indent_of c.args.words.now) (units rs))) p);
+      metrics = c.check-a.ensures.metrics;
+    }
+
 pub returns-then-not-limits_ok : goal.returns-then-not-limits_ok
 returns-then-not-limits_ok c =
     let bad = limits_off c.args.words.now (sym c.limits_ok.ensures ∙ c.if-not-limits_ok.true) in
@@ -46,18 +61,3 @@ returns-then-a-ne0 c =
     let bad = refused_sound c.args.words.now _ _ told a c.if-a-ne0.true in
     let answered = stored_damaged c.args.words.now _ _ _ bad c.damaged-then-a-ne0.ensures in
     record { lines = answered.0; metrics = answered.1 }
-
-pub returns : goal.returns
-returns c =
-    let limits = sym c.limits_ok.ensures ∙ c.if-not-limits_ok.false in
-    let told = records_tell c.args.words.now limits c.if-count-gt-MOST_COUNT.false c.if-words-gt1.false in
-    let p = stored_paragraph c.args.words.now c.requires c.if-count-gt-MOST_COUNT.false in
-    let a =
-    ap (judged (measure_of c.args.words.now) (indent_of c.args.words.now)) (sym p) ∙ c.check-a.ensures.started.answer in
-    record {
-      lines = stored_sound c.args.words.now _ _ _ told a c.if-a-ne0.false
-          (λ j l.
-          c.check-a.ensures.started.first c.if-a-ne0.false j l
-          ∙ ap (λ rs. start j (compose (measure_of c.args.words.now) (indent_of c.args.words.now) (units rs))) p);
-      metrics = c.check-a.ensures.metrics;
-    }
