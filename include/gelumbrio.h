@@ -8,7 +8,7 @@
  * Every call takes any words, bytes, numbers and lengths, and ends. A refused call changes no word of the sheet. Each
  * slice passes as a pointer, then its length: in words, and in bytes for a text. With length 0 nothing is read through
  * the pointer, which must still not be NULL. The sheet overlaps no other slice of its call, and nobody else writes to
- * it meanwhile. Link with libgelumbrio.a (`rt staticlib gelumbrio`), which is for x86-64 Linux.
+ * it meanwhile. Link with libgelumbrio.a (`rt lib` in crates/gelumbrio), which is for x86-64 Linux.
  */
 #ifndef GELUMBRIO_H
 #define GELUMBRIO_H

@@ -88,8 +88,10 @@ fn built_library(root: &Path) -> PathBuf {
     kept
 }
 
+/// Puts a copy in its place whole: a build beside this one, with a target folder of its own, never reads half of it.
 fn copy(from: &Path, to: &Path) {
-    if let Err(error) = std::fs::copy(from, to) {
+    let part = to.with_extension(format!("{}.part", std::process::id()));
+    if let Err(error) = std::fs::copy(from, &part).and_then(|_| std::fs::rename(&part, to)) {
         fail(&format!("{} could not be copied to {}: {error}.", from.display(), to.display()));
     }
 }
