@@ -22,7 +22,8 @@
 -- sheet; the rows 1 to 3 and 14 stand once, in `on_book_slot` and in `on_slot` of crate `rules`, and 17 stands before
 -- them. The book's tables have the rows of document 01's in its order. Answer 4 has no row: it cannot come up. Assumes
 -- nothing.
-use Rattle.std.specs.Prelude.{◌≡◌, ℕ, zero, suc, ◌+◌, ◌-◌, ◌/◌, ◌%◌, Bool, cond, not, ◌&&◌, ◌||◌, List, [], ◌∷◌, ◌++◌, leb, ltb, eqb, length, get_or, set}
+use Rattle.std.specs.Prelude.{◌≡◌, ℕ, zero, suc, ◌+◌, ◌-◌, ◌/◌, ◌%◌, Bool, cond, not, ◌&&◌, ◌||◌}
+use Rattle.std.specs.Prelude.{List, [], ◌∷◌, ◌++◌, leb, ltb, eqb, length, get_or, set}
 use Rattle.std.proofs.Math.Option.{Option, none}
 use Rattle.rules.specs.Basics.{first_of}
 use Rattle.rules.specs.Layout.{most_records, record_length, slot_length}

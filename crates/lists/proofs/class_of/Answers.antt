@@ -10,4 +10,5 @@ pub returns-then-e-lt-WESTERN : goal.returns-then-e-lt-WESTERN
 returns-then-e-lt-WESTERN c = let e = c.entry-e in class_other _ e.result e.ensures c.if-e-lt-WESTERN.true
 
 pub returns-else-e-lt-WESTERN : goal.returns-else-e-lt-WESTERN
-returns-else-e-lt-WESTERN c = let e = c.entry-e in class_none _ e.result e.ensures c.if-e-lt-WESTERN.false c.if-e-ge-ALSO_WESTERN.false
+returns-else-e-lt-WESTERN c =
+    let e = c.entry-e in class_none _ e.result e.ensures c.if-e-lt-WESTERN.false c.if-e-ge-ALSO_WESTERN.false

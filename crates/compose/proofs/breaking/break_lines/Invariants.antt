@@ -1,3 +1,4 @@
+-- The loop of `compose::breaking::break_lines`: invariant and measure. Assumes nothing.
 use Prim.Native.Nat.{◌-◌}
 use Rattle.compose.proofs.BreakLines.{Due}
 use Rattle.compose.proofs.breaking.break_lines.Given as goal

@@ -1,3 +1,4 @@
+-- The loop of `compose::breaking::longest_line`: invariant and measure. Assumes nothing.
 use Prim.Native.Nat.{◌-◌}
 use Rattle.compose.proofs.LongestLine.{Search}
 use Rattle.compose.proofs.breaking.longest_line.Given as goal

@@ -1,3 +1,4 @@
+-- The loop of `compose::checks::first_bad_record`: invariant and measure. Assumes nothing.
 use Prim.Native.Nat.{◌-◌}
 use Rattle.rules.specs.Records.{rec_ok}
 use Rattle.compose.proofs.Faults.{Passed}

@@ -1,3 +1,4 @@
+-- The loop of `compose::checks::first_group_fault`: invariant and measure. Assumes nothing.
 use Prim.Native.Nat.{◌-◌}
 use Rattle.compose.proofs.Faults.{Grouped}
 use Rattle.compose.proofs.checks.first_group_fault.Given as goal

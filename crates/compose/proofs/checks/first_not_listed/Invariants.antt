@@ -1,3 +1,4 @@
+-- The loop of `compose::checks::first_not_listed`: invariant and measure. Assumes nothing.
 use Prim.Native.Nat.{◌-◌}
 use Rattle.rules.specs.Listed.{is_listed}
 use Rattle.compose.proofs.Faults.{Passed}

@@ -1,3 +1,4 @@
+-- The loop of `compose::kept::move_metrics`: invariant and measure. Assumes nothing.
 use Prim.Native.Nat.{◌-◌}
 use Rattle.compose.proofs.KeepMetrics.{Turned}
 use Rattle.compose.proofs.kept.move_metrics.Given as goal

@@ -1,3 +1,4 @@
+-- The loop of `compose::kept::unit_from`: invariant and measure. Assumes nothing.
 use Prim.Native.Nat.{◌-◌}
 use Rattle.compose.proofs.KeepMetrics.{InGroup}
 use Rattle.compose.proofs.kept.unit_from.Given as goal

@@ -1,3 +1,4 @@
+-- The loop of `compose::metrics::put_unit`: invariant and measure. Assumes nothing.
 use Prim.Native.Nat.{◌-◌}
 use Rattle.compose.proofs.PutUnit.{UnitFilling}
 use Rattle.compose.proofs.metrics.put_unit.Given as goal

@@ -1,3 +1,4 @@
+-- The loop of `compose::places::compose_lines`: invariant and measure. Assumes nothing.
 use Prim.Native.Nat.{◌-◌}
 use Rattle.compose.specs.Paragraph.{record_count}
 use Rattle.compose.proofs.ComposeLines.{LinesToCome}

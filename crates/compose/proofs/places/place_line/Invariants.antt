@@ -1,3 +1,4 @@
+-- The loop of `compose::places::place_line`: invariant and measure. Assumes nothing.
 use Prim.Native.Nat.{◌-◌}
 use Rattle.rules.specs.Structs.{gap_from}
 use Rattle.compose.specs.Rates.{amounts_from}

@@ -1,3 +1,4 @@
+-- The loop of `compose::scan::fill_lones`: invariant and measure. Assumes nothing.
 use Rattle.compose.specs.Scan.{Filled}
 use Rattle.compose.proofs.scan.fill_lones.Given as goal
 

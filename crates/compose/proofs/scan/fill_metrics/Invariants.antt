@@ -1,3 +1,4 @@
+-- The loop of `compose::scan::fill_metrics`: invariant and measure. Assumes nothing.
 use Rattle.rules.specs.Tables.{Laid}
 use Rattle.compose.specs.Scan.{Filled}
 use Rattle.compose.proofs.scan.fill_metrics.Given as goal

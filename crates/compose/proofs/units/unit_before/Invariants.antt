@@ -1,3 +1,4 @@
+-- The loop of `compose::units::unit_before`: invariant and measure. Assumes nothing.
 use Rattle.compose.proofs.UnitBefore.{UnitWalk}
 use Rattle.compose.proofs.units.unit_before.Given as goal
 

@@ -1,3 +1,4 @@
+-- The loop of `leaflet::ahead::chars_before_tag`: invariant and measure. Assumes nothing.
 use Prim.Native.Nat.{◌-◌}
 use lib.ListN.{length}
 use borrow.Author.Rules.{rules}

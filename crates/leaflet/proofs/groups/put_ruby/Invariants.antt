@@ -1,3 +1,4 @@
+-- The loop of `leaflet::groups::put_ruby`: invariant and measure. Assumes nothing.
 use Prim.Native.Nat.{◌-◌}
 use borrow.Author.Rules.{rules}
 use Rattle.leaflet.specs.Written.{rubied_to}

@@ -1,3 +1,4 @@
+-- The loop of `leaflet::items::has_bytes_at`: invariant and measure. Assumes nothing.
 use Prim.Native.Nat.{◌-◌}
 use lib.ListN.{length}
 use borrow.Author.Rules.{rules}

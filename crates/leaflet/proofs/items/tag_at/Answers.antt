@@ -31,5 +31,3 @@ returns-then-has_bytes_at-6 c = search (rules, tag_here, tag_not) depth 8
 pub returns : goal.returns
 unfolding tag_bytes
 returns c = search (rules, tag_not, no_tag) depth 9
-
--- TODO not aligned: ['(λ c κs. search rules)', '(λ c κs. search rules)', '(λ c κs. search rules)', '(λ c κs. search rules)', '(λ c κs. search rules)', '(λ c κs. search rules)'] with ['has_bytes_at-requires']

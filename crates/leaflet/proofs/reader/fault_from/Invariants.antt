@@ -1,3 +1,4 @@
+-- The loop of `leaflet::reader::fault_from`: invariant and measure. Assumes nothing.
 use Prim.Native.Nat.{◌-◌}
 use lib.ListN.{length, drop}
 use borrow.Author.Rules.{rules}

@@ -7,7 +7,9 @@ use Rattle.rules.proofs.Stores.{stores}
 use Rattle.leaflet.proofs.records.put_record.Goals as goal
 
 pub returns : goal.returns
-returns c = stores (c.args.c ∷ c.args.class ∷ c.args.size ∷ c.args.advance ∷ c.args.g ∷ 0 ∷ []) c.args.words.now c.args.i (omega arith)
+returns c =
+    stores (c.args.c ∷ c.args.class ∷ c.args.size ∷ c.args.advance ∷ c.args.g ∷ 0 ∷ []) c.args.words.now c.args.i
+    (omega arith)
 
 pub bounds-words-i-2 : goal.bounds-words-i-2
 bounds-words-i-2 c = simp length-set (omega arith)

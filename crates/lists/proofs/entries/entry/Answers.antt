@@ -11,7 +11,9 @@ pub returns-then-is_common : goal.returns-then-is_common
 returns-then-is_common c = sym (common_agrees _ (sym c.is_common.ensures ∙ c.if-is_common.true))
 
 pub returns-then-is_unified : goal.returns-then-is_unified
-returns-then-is_unified c = sym (high_is _ c.if-code-lt13312.false (search rules) (sym c.is_unified.ensures ∙ c.if-is_unified.true))
+returns-then-is_unified c =
+    sym (high_is _ c.if-code-lt13312.false (search rules) (sym c.is_unified.ensures ∙ c.if-is_unified.true))
 
 pub returns-else-is_unified : goal.returns-else-is_unified
-returns-else-is_unified c = sym (high_is _ c.if-code-lt13312.false (search rules) (sym c.is_unified.ensures ∙ c.if-is_unified.false))
+returns-else-is_unified c =
+    sym (high_is _ c.if-code-lt13312.false (search rules) (sym c.is_unified.ensures ∙ c.if-is_unified.false))

@@ -15,17 +15,24 @@ returns-then-entry-eq0 c = solid_taken c.args.entry c.args.left c.args.right c.i
 pub times-requires : goal.times-requires
 times-requires c =
     let row : get_or c.args.words.now c.args.entry []
-    ≡ left_word (named c.args.entry) ∷ right_word (named c.args.entry) ∷ [] = ap (λ t. get_or t c.args.entry []) c.requires.3 ∙ words_at c.args.entry c.requires.0 in
+    ≡ left_word (named c.args.entry) ∷ right_word (named c.args.entry) ∷ [] =
+    ap (λ t. get_or t c.args.entry []) c.requires.3 ∙ words_at c.args.entry c.requires.0 in
     (c.requires.1, rw (row) (entry_law c.args.entry c.requires.0).small.0)
 
 pub times-requires-2 : goal.times-requires-2
 times-requires-2 c =
     let row : get_or c.args.words.now c.args.entry []
-    ≡ left_word (named c.args.entry) ∷ right_word (named c.args.entry) ∷ [] = ap (λ t. get_or t c.args.entry []) c.requires.3 ∙ words_at c.args.entry c.requires.0 in
+    ≡ left_word (named c.args.entry) ∷ right_word (named c.args.entry) ∷ [] =
+    ap (λ t. get_or t c.args.entry []) c.requires.3 ∙ words_at c.args.entry c.requires.0 in
     (c.requires.2, rw (row) (entry_law c.args.entry c.requires.0).small.1)
 
 pub returns : goal.returns
 returns c =
     let row : get_or c.args.words.now c.args.entry []
-    ≡ left_word (named c.args.entry) ∷ right_word (named c.args.entry) ∷ [] = ap (λ t. get_or t c.args.entry []) c.requires.3 ∙ words_at c.args.entry c.requires.0 in
-    record { word = rw (c.times.ensures.0, c.times-2.ensures.0, row); small = omega (arith, c.times.ensures.1, c.times-2.ensures.1) }
+    ≡ left_word (named c.args.entry) ∷ right_word (named c.args.entry) ∷ [] =
+    ap (λ t. get_or t c.args.entry []) c.requires.3 ∙ words_at c.args.entry c.requires.0 in
+    record {
+      word = rw (c.times.ensures.0, c.times-2.ensures.0, row);
+      small =
+          omega (arith, c.times.ensures.1, c.times-2.ensures.1);
+    }

@@ -7,10 +7,12 @@ use Rattle.rules.proofs.gaps.times.Goals as goal
 
 pub overflow_mul-result : goal.overflow_mul-result
 overflow_mul-result c =
-    let small : c.args.size / 8 * c.args.word ≤ 274877906944000 = mul-le-mul {n₂ = 500} (omega (arith, c.requires.0)) c.requires.1 in
+    let small : c.args.size / 8 * c.args.word ≤ 274877906944000 =
+    mul-le-mul {n₂ = 500} (omega (arith, c.requires.0)) c.requires.1 in
     record { fits = omega (arith, small) }
 
 pub returns : goal.returns
 returns c =
-    let small : c.args.size / 8 * c.args.word ≤ 274877906944000 = mul-le-mul {n₂ = 500} (omega (arith, c.requires.0)) c.requires.1 in
+    let small : c.args.size / 8 * c.args.word ≤ 274877906944000 =
+    mul-le-mul {n₂ = 500} (omega (arith, c.requires.0)) c.requires.1 in
     search (rules, small)

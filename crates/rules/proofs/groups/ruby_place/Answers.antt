@@ -8,24 +8,28 @@ use Rattle.rules.proofs.groups.ruby_place.Goals as goal
 
 pub ruby_total-requires : goal.ruby_total-requires
 ruby_total-requires c =
-    let bounds : RubyBounds c.args.base_advance c.args.ruby_count c.args.size c.args.k = ruby_ok_bounds _ _ _ _ (sym c.ruby_ok.ensures ∙ c.if-ruby_ok.true) in
+    let bounds : RubyBounds c.args.base_advance c.args.ruby_count c.args.size c.args.k =
+    ruby_ok_bounds _ _ _ _ (sym c.ruby_ok.ensures ∙ c.if-ruby_ok.true) in
     ((bounds).characters, (bounds).size)
 
 pub overflow_mul-result : goal.overflow_mul-result
 overflow_mul-result c =
-    let bounds : RubyBounds c.args.base_advance c.args.ruby_count c.args.size c.args.k = ruby_ok_bounds _ _ _ _ (sym c.ruby_ok.ensures ∙ c.if-ruby_ok.true) in
+    let bounds : RubyBounds c.args.base_advance c.args.ruby_count c.args.size c.args.k =
+    ruby_ok_bounds _ _ _ _ (sym c.ruby_ok.ensures ∙ c.if-ruby_ok.true) in
     let b = bounds in
     omega (arith, ruby_total_small c.args.k c.args.size (omega arith) b.size)
 
 pub shift-requires : goal.shift-requires
 shift-requires c =
-    let bounds : RubyBounds c.args.base_advance c.args.ruby_count c.args.size c.args.k = ruby_ok_bounds _ _ _ _ (sym c.ruby_ok.ensures ∙ c.if-ruby_ok.true) in
+    let bounds : RubyBounds c.args.base_advance c.args.ruby_count c.args.size c.args.k =
+    ruby_ok_bounds _ _ _ _ (sym c.ruby_ok.ensures ∙ c.if-ruby_ok.true) in
     let b = bounds in
     search rules
 
 pub overflow_add-result : goal.overflow_add-result
 overflow_add-result c =
-    let bounds : RubyBounds c.args.base_advance c.args.ruby_count c.args.size c.args.k = ruby_ok_bounds _ _ _ _ (sym c.ruby_ok.ensures ∙ c.if-ruby_ok.true) in
+    let bounds : RubyBounds c.args.base_advance c.args.ruby_count c.args.size c.args.k =
+    ruby_ok_bounds _ _ _ _ (sym c.ruby_ok.ensures ∙ c.if-ruby_ok.true) in
     let b = bounds in
     let solid = ruby_total_small c.args.k c.args.size (omega arith) b.size in
     omega (arith, shift_small c.excess-d.result c.args.ruby_count c.args.k b.character)

@@ -1,3 +1,4 @@
+-- The loop of `sheet::setting_up::limits_answer`: invariant and measure. Assumes nothing.
 use Prim.Native.Nat.{◌-◌}
 use lib.ListN.{length}
 use Rattle.sheet.proofs.SetUpLaws.{Searched}

@@ -1,3 +1,4 @@
+-- The loop of `sheet::setting_up::write_each`: invariant and measure. Assumes nothing.
 use Prim.Native.Nat.{◌-◌}
 use lib.ListN.{length}
 use Rattle.sheet.proofs.FreshSlots.{Written}

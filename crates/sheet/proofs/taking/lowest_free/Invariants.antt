@@ -1,3 +1,4 @@
+-- The loop of `sheet::taking::lowest_free`: invariant and measure. Assumes nothing.
 use Prim.Native.Nat.{◌-◌}
 use Rattle.sheet.proofs.TakeLaws.{Looked}
 use Rattle.sheet.proofs.taking.lowest_free.Given as goal

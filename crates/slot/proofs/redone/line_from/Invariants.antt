@@ -1,3 +1,4 @@
+-- The loop of `slot::redone::line_from`: invariant and measure. Assumes nothing.
 use Prim.Native.Nat.{ℕ, ◌-◌, ◌≤◌, ◌<◌}
 use lib.ListN.{get_or}
 use Rattle.slot.proofs.redone.line_from.Given as goal

@@ -1,3 +1,4 @@
+-- The loop of `slot::redone::lines_redone`: invariant and measure. Assumes nothing.
 use Prim.Native.Nat.{◌-◌}
 use Rattle.slot.proofs.RedoneReport.{Searching}
 use Rattle.slot.proofs.redone.lines_redone.Given as goal

@@ -1,3 +1,4 @@
+-- The loop of `slot::words::clear`: invariant and measure. Assumes nothing.
 use Prim.Native.Nat.{◌-◌}
 use lib.ListN.{length}
 use Rattle.slot.proofs.ClearedWords.{Cleared}

@@ -1,3 +1,4 @@
+-- The loop of `slot::words::copy_in`: invariant and measure. Assumes nothing.
 use mathlib.Core.Path.{◌≡◌}
 use Prim.Native.Nat.{◌-◌, ◌≤◌}
 use lib.ListN.{length}
