@@ -69,7 +69,8 @@ module _ {bs : List ℕ} {size : ℕ} {out : List ℕ} {at : ℕ} {q : Spot} {k 
   loop_refused c w f h z a y = character_refused c w f h z (rw y at a)
 
   pub loop_astray : {r : Found} {e : List ℕ} (v : TagEnum) (w : ℕ) {t : Step} → FoundAt bs at (next (drop at bs)) r →
-      at < length bs → r ≡ Markup v w → step_of t ≡ step q (tag (tag_of v)) → t ≡ Refused → ReadAs bs size e (FaultAt at)
+      at < length bs → r ≡ Markup v w → step_of t ≡ step q (tag (tag_of v)) → t ≡ Refused →
+      ReadAs bs size e (FaultAt at)
   loop_astray v w f h z t y =
       let g : none ≡ step q (tag (tag_of v)) = rw y at t in
       at_fault (sym (walked_fault l.walked (item_step_tag h v w Refused f z g refl) refl))

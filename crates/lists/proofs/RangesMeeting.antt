@@ -30,7 +30,8 @@ lists_meeting lo n [] = []
 lists_meeting lo n (list c rs ∷ ls) = keep_list c (ranges_meeting lo n rs) (lists_meeting lo n ls)
 
 -- a code point of the interval is in no range that does not meet it
-missed : (lo n k : ℕ) → lo ≤ k → k < lo + n → (a b : ℕ) → meets lo n (range a b) ≡ false → in_range k (range a b) ≡ false
+missed : (lo n k : ℕ) → lo ≤ k → k < lo + n → (a b : ℕ) → meets lo n (range a b) ≡ false →
+    in_range k (range a b) ≡ false
 missed lo n k h g a b e = cases (ltb a (lo + n)) refl (leb lo b) refl e
   where
     cases : (s : Bool) → ltb a (lo + n) ≡ s → (t : Bool) → leb lo b ≡ t → (s && t) ≡ false →

@@ -86,8 +86,9 @@ one_word : (ws : List ℕ) (a b : ℕ) → a + 1 ≡ b → a < length ws → dro
 one_word ws a b e h = let f : suc a ≡ b = omega arith in rw f at (drop-cons ws a 0 h)
 
 six_words : (ws : List ℕ) (a : ℕ) → a + 6 ≤ length ws →
-    drop a ws ≡ get_or ws a 0 ∷ get_or ws (a + 1) 0 ∷ get_or ws (a + 2) 0 ∷ get_or ws (a + 3) 0 ∷ get_or ws (a + 4) 0 ∷ get_or ws
-    (a + 5) 0 ∷ drop (a + 6) ws
+    drop a ws
+    ≡ get_or ws a 0 ∷ get_or ws (a + 1) 0 ∷ get_or ws (a + 2) 0 ∷ get_or ws (a + 3) 0 ∷ get_or ws (a + 4) 0
+    ∷ get_or ws (a + 5) 0 ∷ drop (a + 6) ws
 six_words ws a h =
     rw (
       one_word ws a (a + 1) refl (omega arith),

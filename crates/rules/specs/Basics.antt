@@ -11,7 +11,8 @@
 --   tabled       the list of a definition's values, number after number
 --
 -- Assumes nothing.
-use Rattle.std.specs.Prelude.{ℕ, zero, suc, ◌-◌, Bool, true, false, cond, ◌&&◌, ◌||◌, List, [], ◌∷◌, ◌++◌, leb, eqb, length, replicate}
+use Rattle.std.specs.Prelude.{ℕ, zero, suc, ◌-◌, Bool, true, false, cond, ◌&&◌, ◌||◌}
+use Rattle.std.specs.Prelude.{List, [], ◌∷◌, ◌++◌, leb, eqb, length, replicate}
 use Rattle.std.proofs.Math.Option.{Option, none, some}
 
 abbrev pub is_in : ℕ → List ℕ → Bool

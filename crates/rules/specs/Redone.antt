@@ -9,7 +9,8 @@
 --   resumed      r: the first line that is not; there an old line stands again, moved
 --
 -- Assumes nothing.
-use Rattle.std.specs.Prelude.{ℕ, zero, suc, ◌+◌, ◌-◌, min, Bool, true, false, ◌&&◌, List, [], ◌∷◌, leb, ltb, length, drop}
+use Rattle.std.specs.Prelude.{ℕ, zero, suc, ◌+◌, ◌-◌, min, Bool, true, false, ◌&&◌}
+use Rattle.std.specs.Prelude.{List, [], ◌∷◌, leb, ltb, length, drop}
 use Rattle.rules.specs.Basics.{is_in}
 use Rattle.rules.specs.Adjustment.{Line}
 

@@ -10,7 +10,8 @@
 --   fresh        a slot with a setting and nothing else: all other words are 0
 --
 -- Assumes nothing.
-use Rattle.std.specs.Prelude.{ℕ, suc, ◌+◌, ◌*◌, ◌-◌, ◌/◌, ◌%◌, Bool, ◌&&◌, List, [], ◌∷◌, ◌++◌, leb, ltb, eqb, length, take, drop, get_or}
+use Rattle.std.specs.Prelude.{ℕ, suc, ◌+◌, ◌*◌, ◌-◌, ◌/◌, ◌%◌, Bool, ◌&&◌}
+use Rattle.std.specs.Prelude.{List, [], ◌∷◌, ◌++◌, leb, ltb, eqb, length, take, drop, get_or}
 use Rattle.rules.specs.Basics.{within, zeros, padded}
 use Rattle.rules.specs.Layout.{most_slots, records_length, places_length, lines_length, slot_length}
 use Rattle.rules.specs.Layout.{clinic_at, measure_at, indent_at, record_count_at, line_count_at, in_use_at, records_at}
