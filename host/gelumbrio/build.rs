@@ -92,6 +92,7 @@ fn built_library(root: &Path) -> PathBuf {
 fn copy(from: &Path, to: &Path) {
     let part = to.with_extension(format!("{}.part", std::process::id()));
     if let Err(error) = std::fs::copy(from, &part).and_then(|_| std::fs::rename(&part, to)) {
+        let _ = std::fs::remove_file(&part);
         fail(&format!("{} could not be copied to {}: {error}.", from.display(), to.display()));
     }
 }
