@@ -1,6 +1,5 @@
 #!/usr/bin/env python3
-"""Writes what crate `lists` has of source document 003 (JLReq, Annex A): the lists in specs/, the program's tables,
-and the proofs of the tables' arms.
+"""Writes what crate `lists` has of source document 003 (JLReq, Annex A): the lists in specs/, and the program's tables.
 
 Usage, from the repository's root: python3 tools/lists/make.py PAPERS, the folder of the source document."""
 import sys
@@ -10,6 +9,10 @@ NAMES = {1: "opening_brackets", 2: "closing_brackets", 3: "hyphens", 4: "dividin
          6: "full_stops", 7: "commas", 8: "inseparable", 9: "iteration_marks", 10: "prolonged_sound_mark",
          11: "small_kana", 12: "prefixed_abbreviations", 13: "postfixed_abbreviations", 14: "full_width_space",
          15: "hiragana", 16: "katakana", 19: "ideographic", 27: "western"}
+CLASS = {1: "OpeningBracket", 2: "ClosingBracket", 3: "Hyphen", 4: "DividingMark", 5: "MiddleDot", 6: "FullStop",
+         7: "Comma", 8: "Inseparable", 9: "IterationMark", 10: "ProlongedSoundMark", 11: "SmallKana",
+         12: "PrefixedAbbreviation", 13: "PostfixedAbbreviation", 14: "FullWidthSpace", 15: "Hiragana", 16: "Katakana",
+         19: "Ideographic"}
 CRATE = "crates/lists/"
 MADE = "Made by tools/lists/make.py; edit that."
 
@@ -61,74 +64,86 @@ unified_ideographs =
     return text + "    []\n"
 
 
-def table(name, xs):
-    return f"unfoldable pub {name} : List ℕ\n{name} =\n" + "".join(f"    0x{x:X} ∷\n" for x in xs) + "    []\n"
+def constant(entry):
+    """The name of an entry: C with the class's number, and W where the list of class 27 has the code point."""
+    own, western = entry
+    return (f"C{own}" if own else "") + ("W" if western else "") or "N"
 
 
-def match(name, doc, xs):
-    arms = "".join(f"        {i} => 0x{x:X},\n" for i, x in enumerate(xs))
-    return f"""// {doc}
-pub(crate) fn {name}(n: u32) -> u64
-    ensures {{ result ≡ get_or {name}s n 0 }}
-{{
-    match n {{
-{arms}        _ => 0,
-    }}
-}}
-"""
-
-
-def answer(name, case, what):
-    goal = f"returns-in{case}"
-    return f"pub {goal} : goal.{goal}\nunfolding {name}s\n{goal} c = {what}\n"
-
-
-def proof(name, n):
-    arms = [answer(name, f"-{i}", f"arm {name}s c.in-{i}.is") for i in range(n)]
-    past = answer(name, "_default", f"past_arms {name}s c.args.n c.in_default.in_default-own.rest")
-    with open(CRATE + f"proofs/tables/{name}/Answers.antt", "w") as f:
+def tables_file(blocks, eights, firsts):
+    """src/tables.rt: the constants that the entries are named by, and both tables."""
+    named = sorted({e for row in eights for e in row if e[0]})
+    constants = "\n".join(f"const {constant(e)}: Entry = entry!({CLASS[e[0]]}, {str(e[1]).lower()});\n" for e in named)
+    rows = "".join(f"    [{', '.join(map(str, row))}], // {64 * i:04X}\n" for i, row in enumerate(blocks))
+    entries = "".join(f"    row!({' '.join(map(constant, row))}), // {k:04X}\n" for row, k in zip(eights, firsts))
+    with open(CRATE + "src/tables.rt", "w") as f:
         f.write(f"""\
--- `lists::tables::{name}` meets its contract: an arm for each number of the table, and 0 past its end.
--- {MADE}
--- Assumes nothing.
-use Rattle.lists.specs.Table.{{{name}s}}
-use Rattle.lists.proofs.Arms.{{arm, past_arms}}
-use Rattle.lists.proofs.tables.{name}.Goals as goal
+// The tables. That they agree with the lists is proved (proofs/Agreement.antt).
+// {MADE}
+ghost use Rattle.std.specs.Prelude.{{◌≡◌, ◌<◌, [], get_or}};
+ghost use Rattle.lists.specs.Entries.{{blocks, eights, nowhere}};
 
-""" + "\n".join(arms + [past]))
+use crate::classes::Class;
+use crate::entries::{{Entry, NOWHERE}};
+
+macro_rules! entry {{
+    ($own:ident, $western:literal) => {{
+        Entry {{ own: Class::$own as u8, western: $western }}
+    }};
+}}
+
+// The entries by the class's number, with W where the list of class 27 has the code point; N where no list has it.
+const N: Entry = NOWHERE;
+
+const W: Entry = Entry {{
+    own: 0,
+    western: true,
+}};
+
+{constants}
+macro_rules! row {{
+    ($($entry:ident)*) => {{ [$($entry),*] }};
+}}
+
+// For each 64 code points, from the one beside the row on, the numbers of their eights.
+static BLOCKS: [[u8; 8]; {len(blocks)}] = [
+{rows}];
+
+// The eights: the entries of eight code points, from the one beside the row on. Those of 0000 to 00FF and of 3000 to
+// 30FF come first; the others serve wherever a block has their number.
+static EIGHTS: [[Entry; 8]; {len(eights)}] = [
+{entries}];
+
+// The number of eight `i` of block `n`. It and `eight` are looks at tables of two types: a generic one would be no more
+// than the index.
+#[tactic(auto, unfolding(crate::specs::Entries::blocks))]
+pub(crate) fn block(n: usize, i: usize) -> u8
+    requires {{ (n < {len(blocks)}) × (i < 8) }}
+    ensures {{ result ≡ get_or (get_or blocks n []) i 0 }}
+{{
+    BLOCKS[n][i]
+}}
+
+// Entry `i` of eight `n`.
+#[tactic(auto, unfolding(crate::specs::Entries::eights))]
+pub(crate) fn eight(n: usize, i: usize) -> Entry
+    requires {{ (n < {len(eights)}) × (i < 8) }}
+    ensures {{ result ≡ get_or (get_or eights n []) i nowhere }}
+{{
+    EIGHTS[n][i]
+}}
+""")
 
 
 def main():
     lists = source.read(sys.argv[1])
-    left_out = "Entries of two code points are left out (request 04)."
+    left_out = "Entries of two code points are left out."
     spec_file("ListsTo16", f"JLReq Annex A, classes 1 to 16. {left_out}", range(1, 17), lists)
     examples = "JLReq Annex A, class 19, whose list there is of examples other than ideographs; and the ideographs."
     spec_file("List19", examples, [19], lists, unified())
     spec_file("List27", f"JLReq Annex A, class 27. {left_out}", [27], lists)
-    blocks, eights = tables.two_level(lists)
-    with open(CRATE + "specs/Table.antt", "w") as f:
-        f.write(f"""\
--- The program's tables, which its private functions' contracts cite. Nothing here needs to be believed: that
--- they agree with the lists is proved (proofs/Agreement.antt).
---   eights    eight entries to a number, the first lowest. Eights 0 to 31 are those of 0000 to 00FF, and 32 to 63
---             those of 3000 to 30FF, in order
---   blocks    for each 64 code points below 3400 the numbers of their eights, a byte each, the first lowest
--- {MADE}
--- Assumes nothing.
-use Rattle.std.specs.Prelude.{{ℕ, List, [], ◌∷◌}}
-
-""" + table("blocks", blocks) + "\n" + table("eights", eights))
-    with open(CRATE + "src/tables.rt", "w") as f:
-        f.write(f"""\
-// The tables: a match on a number with constant arms is one load from read-only memory.
-// {MADE}
-ghost use Rattle.std.specs.Prelude.{{◌≡◌, get_or}};
-ghost use Rattle.lists.specs.Table.{{blocks, eights}};
-
-""" + match("block", "For 64 code points, the numbers of their eights, the first lowest.", blocks) + "\n"
-                + match("eight", "The entries of eight code points, the first lowest.", eights))
-    proof("block", len(blocks))
-    proof("eight", len(eights))
+    blocks, eights, firsts = tables.two_level(lists)
+    tables_file(blocks, eights, firsts)
 
 
 main()

@@ -1,7 +1,7 @@
 """JLReq Annex A (source document 003) read into lists of code points in the source's own order, with names.
 
 An entry of the source is a line of four to six hexadecimal digits; the line after it is its UCS name. An entry of two
-code points is a line <XXXX, XXXX>, and is left out (request 04)."""
+code points is a line <XXXX, XXXX>, and is left out."""
 import glob, re
 
 CLASSES = list(range(1, 17)) + [19, 27]

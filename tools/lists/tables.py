@@ -1,45 +1,44 @@
-"""The program's tables, from the lists. An entry of a code point is a byte: the class other than 27 whose list has it,
-or 0 (no code point is in two of them: asserted here), and 32 more where the list of class 27 has it."""
+"""The program's tables, from the lists. An entry of a code point is the class other than 27 whose list has it, or None
+(no code point is in two of them: asserted here), and whether the list of class 27 has it."""
 import source
 
 LOW = 0x3400  # from here on only Unified_Ideograph
+NOWHERE = (None, False)
 
 
 def entries(lists):
-    out = {}
-    for c in source.CLASSES:
+    own, western = {}, {x for x, _ in lists[27][2]}
+    for c in source.CLASSES[:-1]:
         for x in {x for x, _ in lists[c][2]}:
-            out[x] = out.get(x, 0) + (32 if c == 27 else c)
-            assert c == 27 or out[x] == c, hex(x)
-    return out
-
-
-def pack(bytes8):
-    return sum(b << (8 * i) for i, b in enumerate(bytes8))
+            assert x not in own, hex(x)
+            own[x] = c
+    return {x: (own.get(x), x in western) for x in own.keys() | western}
 
 
 def eight(e, k):
     """The entries of the eight code points from k on."""
-    return pack([e.get(k + i, 0) for i in range(8)])
+    return tuple(e.get(k + i, NOWHERE) for i in range(8))
 
 
 def two_level(lists):
-    """blocks: for each 64 code points eight bytes, the number of each of their eights; eights: eight entries each.
-    Eights 0 to 31 are those of 0000 to 00FF, and 32 to 63 those of 3000 to 30FF, in order."""
+    """blocks: for each 64 code points the numbers of their eights. eights: eight entries each; 0 to 31 are those of
+    0000 to 00FF, and 32 to 63 those of 3000 to 30FF, in order. firsts: the first code point that each eight is of."""
     e = entries(lists)
-    eights = [eight(e, 8 * g) for g in range(32)] + [eight(e, 0x3000 + 8 * g) for g in range(32)]
+    firsts = [8 * g for g in range(32)] + [0x3000 + 8 * g for g in range(32)]
+    eights = [eight(e, k) for k in firsts]
     number = {}
-    for i, w in enumerate(eights):
-        number.setdefault(w, i)
+    for i, row in enumerate(eights):
+        number.setdefault(row, i)
     blocks = []
     for b in range(LOW // 64):
-        row = []
-        for g in range(8):
-            w = eight(e, b * 64 + g * 8)
-            if w not in number:
-                number[w] = len(eights)
-                eights.append(w)
-            row.append(number[w])
-        blocks.append(pack(row))
-    assert eights[0] == 0 and len(eights) <= 256
-    return blocks, eights
+        numbers = []
+        for k in range(64 * b, 64 * b + 64, 8):
+            row = eight(e, k)
+            if row not in number:
+                number[row] = len(eights)
+                eights.append(row)
+                firsts.append(k)
+            numbers.append(number[row])
+        blocks.append(numbers)
+    assert set(eights[0]) == {NOWHERE} and len(eights) <= 256
+    return blocks, eights, firsts

@@ -1,12 +1,9 @@
 -- The metrics after an edit are those of the new list: what stands from a unit's first record on does not hang on what
 -- stands before it. Assumes nothing.
-use mathlib.Core.Path.{◌≡◌, refl, ap, ◌∙◌}
-use Prim.Native.Nat.{ℕ, ◌+◌, ◌-◌, ◌*◌, ◌≤◌, ◌<◌}
-use native.Mathlib.Omega.{arith}
-use mathlib.Core.Bool.{false}
-use mathlib.Core.List.{List, [], ◌++◌, append-nil}
-use lib.ListN.{get_or}
+use Rattle.std.proofs.Common.{◌≡◌, refl, ap, ◌∙◌, ℕ, ◌+◌, ◌-◌, ◌*◌, ◌≤◌, ◌<◌, arith, false, List, [], ◌++◌}
+use Rattle.std.proofs.Common.{append-nil, get_or}
 use Rattle.rules.specs.Layout.{record_length, most_records}
+use Rattle.rules.specs.Gaps.{no_gaps}
 use Rattle.rules.specs.Records.{rec_at, records}
 use Rattle.rules.specs.Groups.{same_group}
 use Rattle.rules.proofs.All.{all_take, all_drop}
@@ -20,6 +17,7 @@ use Rattle.compose.proofs.Checked.{checked_fine}
 use Rattle.compose.proofs.UnitsFrom.{records_left}
 use Rattle.compose.proofs.HeldMetrics.{held_joined, length_metrics}
 use Rattle.compose.proofs.RecordsApart.{faults_apart, metrics_from}
+use Rattle.compose.specs.declared.metrics.Metrics.{Metrics}
 
 -- lists that have records in common -----------------------------------------------------------------------------
 
@@ -53,9 +51,9 @@ pub record Edit (ws ws' : List ℕ) (p source target : ℕ) : Type 0 where
   pub old : p ≤ record_count ws
   pub new : p ≤ target
 
-module _ {ws ws' ds gs os ds' gs' os' : List ℕ} {p source target kept : ℕ} (k : Kept ws ds gs os)
+module _ {ws ws' : List ℕ} {ms ms' : Metrics} {p source target kept : ℕ} (k : Kept ws ms)
     (v : Edit ws ws' p source target)
-    (q : KeptFrom ws source target ds gs os ds' gs' os' kept) where
+    (q : KeptFrom ws source target ms ms' kept) where
   abbrev a : ℕ
   a = q.first
 
@@ -79,7 +77,7 @@ module _ {ws ws' ds gs os ds' gs' os' : List ℕ} {p source target kept : ℕ} (
       ∙ q.unit.apart (omega (arith, left)) (rec_at ws' (kept - 1))
       (λ m. e (kept - 1) (a - 1) (omega arith) (omega arith) (omega arith))
 
-  pub metrics_kept : FilledFrom ws' p kept ds' gs' os'
+  pub metrics_kept : FilledFrom ws' p kept ms'
   unfolding units_from
   metrics_kept =
       let u = q.unit in
@@ -87,12 +85,12 @@ module _ {ws ws' ds gs os ds' gs' os' : List ℕ} {p source target kept : ℕ} (
       let front = records_same ws ws' 0 0 p v.before 0 0 p (omega arith) (omega arith) (omega arith) in
       let drops = records_left ws a u.within in
       let qs = metrics_of (units_from ws a) in
-      let held : Held ds gs os a (qs ++ []) = rw append-nil (metrics_from ws a u.within old_apart k.metrics) in
-      let moved : Held ds' gs' os' kept (qs ++ []) =
+      let held : Held ms a (qs ++ []) = rw append-nil (metrics_from ws a u.within old_apart k.metrics) in
+      let moved : Held ms' kept (qs ++ []) =
       held_joined kept qs [] [] held
       (λ i l t.
       let h : i < record_count ws - a = omega (arith, length_metrics ws a) in
-      (m.advances.moved i h t, m.gaps.moved i h t, m.offsets.moved i h t))
+      (m.advances.moved i 0 h t, m.gaps.moved i no_gaps h t, m.offsets.moved i 0 h t))
       (λ e. e)
       held_none in
       record {

@@ -1,18 +1,13 @@
 -- The metrics before an edit are those of the new list: a record's hang on its unit and on the side of the next one.
 -- Assumes nothing.
-use mathlib.Core.Path.{◌≡◌, refl, ap, sym, ◌∙◌}
-use Prim.Native.Nat.{ℕ, ◌+◌, ◌-◌, ◌<◌}
-use native.Mathlib.Omega.{arith}
-use native.Mathlib.Nat.{zero-add}
-use mathlib.Core.Bool.{false}
-use mathlib.Core.List.{List, [], ◌∷◌, ◌++◌}
-use mathlib.Core.Logic.{inl, inr}
-use lib.ListN.{length}
+use Rattle.std.proofs.Common.{◌≡◌, refl, ap, sym, ◌∙◌, ℕ, ◌+◌, ◌-◌, ◌<◌, arith, zero-add, false, List, [], ◌∷◌, ◌++◌}
+use Rattle.std.proofs.Common.{inl, inr, length}
 use Rattle.rules.specs.Basics.{alone}
+use Rattle.rules.specs.Gaps.{no_gaps}
 use Rattle.rules.specs.Records.{rec_at, records}
 use Rattle.rules.specs.Groups.{TextUnit, same_group, units, base_offsets}
 use Rattle.rules.specs.Meanings.{All}
-use Rattle.rules.proofs.Decisions.{ordered}
+use Rattle.std.proofs.lemmas.Bool.{cases_lt}
 use Rattle.rules.proofs.WordCounts.{counts_units}
 use Rattle.rules.proofs.All.{all_take, all_append}
 use Rattle.rules.proofs.RecordWords.{length_records, take_records}
@@ -29,6 +24,7 @@ use Rattle.compose.proofs.MetricsBelow.{below_trans}
 use Rattle.compose.proofs.FillMetrics.{front_none}
 use Rattle.compose.proofs.RecordsApart.{records_apart, faults_apart, from_apart}
 use Rattle.compose.proofs.AfterEdit.{records_same, record_same, Edit}
+use Rattle.compose.specs.declared.metrics.Metrics.{Metrics}
 
 -- metrics before a unit -------------------------------------------------------------------------------------------
 
@@ -52,10 +48,10 @@ module _ (v v' : TextUnit) (vs vs' : List TextUnit) (e : v.first ≡ v'.first) w
       let e = before_same us in
       λ t. unit_same u us (base_offsets u) t ++ e t
 
-module _ {ws ws' ds gs os : List ℕ} {p source target : ℕ} (k : Kept ws ds gs os) (v : Edit ws ws' p source target) where
+module _ {ws ws' : List ℕ} {ms : Metrics} {p source target : ℕ} (k : Kept ws ms) (v : Edit ws ws' p source target) where
   -- record i is before the edit, and a unit starts with it
-  module _ (i : ℕ) {ds' gs' os' : List ℕ} (low : 0 < i) (h : i < p) (r : FilledFrom ws' p i ds' gs' os')
-      (b : MetricsBelow i ds gs os ds' gs' os') where
+  module _ (i : ℕ) {ms' : Metrics} (low : 0 < i) (h : i < p) (r : FilledFrom ws' p i ms')
+      (b : MetricsBelow i ms ms') where
     front : records ws' 0 i ≡ records ws 0 i
     front = records_same ws ws' 0 0 p v.before 0 0 i (omega arith) (omega arith) (omega arith)
 
@@ -79,12 +75,12 @@ module _ {ws ws' ds gs os : List ℕ} {p source target : ℕ} (k : Kept ws ds gs
         ∙ before_same _ _ _ _ (a.first ∙ record_at i h ∙ sym c.first) us
         ∙ ap (metrics_before us) (sym c.rest)
 
-    all_metrics : MetricsFrom ws' ds' gs' os' 0
+    all_metrics : MetricsFrom ws' ms' 0
     all_metrics =
         let qs = metrics_before us (units_from ws i) in
         let n : length qs ≡ i =
         length_metrics_before us (units_from ws i) ∙ counts_units (records ws 0 i) ∙ length_records ws 0 i in
-        let old : Held ds gs os 0 (qs ++ metrics_of (units_from ws i)) =
+        let old : Held ms 0 (qs ++ metrics_of (units_from ws i)) =
         rw (← from_apart ws i (omega arith) old_apart, metrics_split) at k.metrics in
         let new : us ++ units_from ws' i ≡ units_from ws' 0 =
         rw (← front) (from_apart ws' i (omega arith) r.scanning.apart) in
@@ -92,7 +88,7 @@ module _ {ws ws' ds gs os : List ℕ} {p source target : ℕ} (k : Kept ws ds gs
         (held_joined 0 qs (metrics_of (units_from ws i)) (metrics_of (units_from ws' i)) old
         (λ j l t.
         let m : 0 + j < i = omega arith in
-        (b.advances (0 + j) m t, b.gaps (0 + j) m t, b.offsets (0 + j) m t))
+        (b.advances (0 + j) 0 m t, b.gaps (0 + j) no_gaps m t, b.offsets (0 + j) 0 m t))
         (λ e. absurd (omega (arith, ap (λ qs. length qs) e, length_metrics ws' i)))
         (rw (n, zero-add) r.metrics))
 
@@ -102,7 +98,7 @@ module _ {ws ws' ds gs os : List ℕ} {p source target : ℕ} (k : Kept ws ds gs
         rw (← all, front, ← take_records ws 0 (record_count ws) i (omega arith))
         (all_append (all_take (checked_fine k.checked) i) r.scanning.sound)
 
-    all_kept : Kept ws' ds' gs' os'
+    all_kept : Kept ws' ms'
     all_kept =
         let g = (faults_apart ws i (omega arith) old_apart).0 k.checked.grouped in
         record {
@@ -113,13 +109,13 @@ module _ {ws ws' ds gs os : List ℕ} {p source target : ℕ} (k : Kept ws ds gs
         }
 
   -- the metrics before the place, where those after it are moved
-  pub front_kept : {ds' gs' os' : List ℕ} {kept : ℕ} → KeptFrom ws source target ds gs os ds' gs' os' kept →
-      Front ws' p (p - 1) ds' gs' os'
-  front_kept {ds'} {gs'} {os'} q i ds'' gs'' os'' h r w =
+  pub front_kept : {ms' : Metrics} {kept : ℕ} → KeptFrom ws source target ms ms' kept →
+      Front ws' p (p - 1) ms'
+  front_kept {ms'} q i ms'' h r w =
       let m = q.moved in
-      let below : MetricsBelow _ ds gs os ds' gs' os' =
+      let below : MetricsBelow _ ms ms' =
       record { advances = m.advances.below; gaps = m.gaps.below; offsets = m.offsets.below } in
-      elim (ordered 0 i) [
+      elim (cases_lt 0 i) [
         | inl l ↦ all_kept i l (omega arith) r (below_trans below w (omega arith))
-        | inr l ↦ front_none ws' p ds' gs' os' i ds'' gs'' os'' (omega arith) r w
+        | inr l ↦ front_none ws' p ms' i ms'' (omega arith) r w
       ]

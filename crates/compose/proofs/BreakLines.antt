@@ -1,23 +1,17 @@
 -- The loop of `break_lines`, as steps: what is left from a record on gives what the whole paragraph gives.
 -- Assumes nothing.
-use mathlib.Core.Path.{◌≡◌, refl, ap, sym, ◌∙◌}
-use Prim.Native.Nat.{ℕ, suc, ◌+◌, ◌≤◌}
-use native.Mathlib.Omega.{arith}
-use native.Mathlib.Numerals.{add-one}
-use mathlib.Core.List.{List, [], ◌∷◌, ◌++◌, append_assoc, append-nil}
-use mathlib.Core.Option.{some}
-use lib.ListN.{length, take, set, length-set}
-use lib.Seq.{take-suc-set, length-take-le}
+use Rattle.std.proofs.Common.{◌≡◌, refl, ap, sym, ◌∙◌, ℕ, suc, ◌+◌, ◌≤◌, arith, add-one, List, [], ◌∷◌, ◌++◌}
+use Rattle.std.proofs.Common.{append_assoc, append-nil, length, take, set, length-set, take-suc-set, length-take-le}
 use Rattle.rules.specs.Layout.{most_records}
 use Rattle.rules.specs.Basics.{Run, whole}
 use Rattle.rules.specs.Groups.{TextUnit, counts}
-use Rattle.rules.specs.Breaks.{runs, wide_run, breaking}
-use Rattle.rules.proofs.Decisions.{some_none}
+use Rattle.rules.specs.Breaks.{runs, breaking}
 use Rattle.compose.specs.Paragraph.{record_count, units_from}
 use Rattle.compose.specs.Lines.{firsts, broken}
-use Rattle.compose.specs.LineFrom.{LineTaken, ToBreak, BrokenTo}
+use Rattle.compose.specs.LineFrom.{LineTaken, BrokenTo}
 use Rattle.compose.proofs.UnitsFrom.{runs_end}
-use Rattle.compose.proofs.LinesLeft.{Left, from_start, left_start, left_none, left_stop, left_more}
+use Rattle.compose.proofs.LinesLeft.{ToBreak, Left, from_start, left_start, left_none, left_more}
+use Rattle.compose.specs.declared.metrics.Metrics.{Metrics}
 
 length_firsts : (i : ℕ) (ls : List (Run TextUnit)) → length (firsts i ls) ≡ length ls
 unfolding firsts
@@ -25,34 +19,28 @@ length_firsts i [] = refl
 length_firsts i (l ∷ ls) = ap suc (length_firsts (i + counts (whole l)) ls)
 
 -- a line is due: it starts with record i, and the first records of the lines before it are written
-pub record Due (ws ds gs os : List ℕ) (i lines m x start : ℕ) (starts : List ℕ) : Type 0 where
-  pub left : Left ws ds gs os i m x start
+pub record Due (ws : List ℕ) (ms : Metrics) (i lines m x start : ℕ) (starts : List ℕ) : Type 0 where
+  pub left : Left ws ms i m x start
   pub room : length starts ≡ most_records
   pub fewer : lines ≤ i
   pub all : take lines starts ++ firsts i (breaking m start (runs (units_from ws i))) ≡ firsts 0 (broken ws m x)
 
-module _ {ws ds gs os : List ℕ} {m x : ℕ} {starts : List ℕ} where
-  pub due_start : ToBreak ws ds gs os m x → length starts ≡ most_records → Due ws ds gs os 0 0 m x x starts
+module _ {ws : List ℕ} {ms : Metrics} {m x : ℕ} {starts : List ℕ} where
+  pub due_start : ToBreak ws ms m x → length starts ≡ most_records → Due ws ms 0 0 m x x starts
   due_start p e = search (left_start, from_start, arith)
 
-  module _ {lines i start : ℕ} (d : Due ws ds gs os i lines m x start starts) where
-    pub due_end : record_count ws ≤ i → BrokenTo ws m x starts (record { lines = lines; place = record_count ws })
+  module _ {lines i start : ℕ} (d : Due ws ms i lines m x start starts) where
+    pub due_end : record_count ws ≤ i → BrokenTo ws m x starts lines
     unfolding breaking firsts
     due_end h =
         let n : length (take lines starts) ≡ lines = length-take-le lines starts (omega arith) in
         let all = sym (append-nil (take lines starts)) ∙ rw (runs_end ws i h, breaking, firsts) at d.all in
         record {
-          place = rw (left_none d.left h);
-          broken = λ z. record { count = sym n ∙ ap length all ∙ length_firsts 0 (broken ws m x); first = all };
+          fits = left_none d.left h;
+          broken = record { count = sym n ∙ ap length all ∙ length_firsts 0 (broken ws m x); first = all };
         }
 
-    pub due_stop : {out : List ℕ} → wide_run m start i (runs (units_from ws i)) ≡ some i →
-        BrokenTo ws m x out (record { lines = lines; place = i })
-    due_stop e =
-        let n = left_stop d.left e in
-        record { place = rw n; broken = λ z. absurd (some_none (sym n ∙ z)) }
-
-    pub due_more : {j : ℕ} → LineTaken ws i j m start → Due ws ds gs os j (lines + 1) m x 0 (set starts lines i)
+    pub due_more : {j : ℕ} → LineTaken ws i j m start → Due ws ms j (lines + 1) m x 0 (set starts lines i)
     unfolding firsts
     due_more t =
         record {

@@ -1,9 +1,5 @@
 -- A checked paragraph by its records: all are fine, and they keep the rules of groups. Assumes nothing.
-use mathlib.Core.Path.{◌≡◌}
-use Prim.Native.Nat.{ℕ, ◌≤◌}
-use mathlib.Core.Bool.{true}
-use mathlib.Core.List.{List}
-use mathlib.Core.Option.{none}
+use Rattle.std.proofs.Common.{◌≡◌, ℕ, ◌≤◌, true, List, None}
 use Rattle.rules.specs.Layout.{most_records}
 use Rattle.rules.specs.Records.{Rec, rec_ok, bad_record}
 use Rattle.rules.specs.Listed.{is_listed, not_listed}
@@ -24,7 +20,7 @@ checked_fine {ws} c =
     both (all_more p ps) (all_more q qs) = all_more (record { sound = p; listed = q }) (both ps qs)
 
 pub fine_checked : {ws : List ℕ} → record_count ws ≤ most_records → All Fine (paragraph ws) →
-    group_fault (paragraph ws) ≡ none →
+    group_fault (paragraph ws) ≡ None →
     Checked ws
 unfolding bad_record not_listed
 fine_checked few fine g =

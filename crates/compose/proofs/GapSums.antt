@@ -1,8 +1,5 @@
 -- Sums of gaps: how they add up, what they come to, and those of no gap. Assumes nothing.
-use mathlib.Core.Path.{◌≡◌, refl}
-use Prim.Native.Nat.{ℕ, ◌<◌}
-use native.Mathlib.Omega.{arith}
-use native.Mathlib.Nat.{add_assoc, add-zero, zero-add}
+use Rattle.std.proofs.Common.{◌≡◌, refl, ℕ, ◌<◌, arith, add_assoc, add-zero, zero-add}
 use Rattle.rules.specs.Gaps.{Gap}
 use Rattle.rules.specs.Gaps.{plus, no_gaps}
 use Rattle.rules.specs.Packed.{unpacked, AtMost}

@@ -1,20 +1,18 @@
--- The metrics of some units and of those after them, as tables hold them. Assumes nothing.
-use mathlib.Core.Path.{◌≡◌, refl, ap, sym, subst, ◌∙◌}
-use Prim.Native.Nat.{ℕ, suc, ◌+◌, ◌-◌, ◌<◌}
-use native.Mathlib.Omega.{arith}
-use native.Mathlib.Nat.{add-zero}
-use mathlib.Core.List.{List, [], ◌∷◌, ◌++◌, append_assoc}
-use lib.ListN.{length, length-append, get_or}
+-- The metrics of some units and of those after them, as they are held. Assumes nothing.
+use Rattle.std.proofs.Common.{◌≡◌, refl, ap, sym, subst, ◌∙◌, ℕ, suc, ◌+◌, ◌-◌, ◌<◌, arith, add-zero, List, [], ◌∷◌}
+use Rattle.std.proofs.Common.{◌++◌, append_assoc, length, length-append, get_or}
 use Rattle.rules.specs.Groups.{TextUnit, counts, base_offsets}
+use Rattle.rules.specs.Gaps.{Gap, no_gaps}
 use Rattle.rules.specs.Records.{records}
 use Rattle.rules.proofs.WordCounts.{length_base_offsets, counts_units}
 use Rattle.rules.proofs.Decisions.{nil_cons}
 use Rattle.rules.proofs.RecordWords.{length_records}
-use Rattle.compose.specs.Metrics.{Metrics, unit_metrics, metrics_of, Held, held_more, MetricsAre}
+use Rattle.compose.specs.Metrics.{RecordMetrics, unit_metrics, metrics_of, Held, held_more, MetricsAre}
 use Rattle.compose.specs.Paragraph.{record_count, units_from}
+use Rattle.compose.specs.declared.metrics.Metrics.{Metrics}
 
 -- the metrics of units before others
-unfoldable pub metrics_before : List TextUnit → List TextUnit → List Metrics
+unfoldable pub metrics_before : List TextUnit → List TextUnit → List RecordMetrics
 metrics_before [] vs = []
 metrics_before (u ∷ us) vs = unit_metrics u (us ++ vs) (base_offsets u) ++ metrics_before us vs
 
@@ -65,47 +63,47 @@ length_metrics ws a =
     length_metrics_of (units_from ws a) ∙ counts_units (records ws a (record_count ws - a))
     ∙ length_records ws a (record_count ws - a)
 
--- what tables hold past some metrics -------------------------------------------------------------------------------
+-- what is held past some metrics ----------------------------------------------------------------------------------
 
-held_past : {ds gs os : List ℕ} (i : ℕ) (ps qs : List Metrics) → Held ds gs os i (ps ++ qs) →
-    Held ds gs os (i + length ps) qs
-held_past {ds} {gs} {os} i [] qs h = subst (λ k. Held ds gs os k qs) (sym (add-zero i)) h
-held_past {ds} {gs} {os} i (p ∷ ps) qs (held_more r n h) =
+held_past : {ms : Metrics} (i : ℕ) (ps qs : List RecordMetrics) → Held ms i (ps ++ qs) →
+    Held ms (i + length ps) qs
+held_past {ms} i [] qs h = subst (λ k. Held ms k qs) (sym (add-zero i)) h
+held_past {ms} i (p ∷ ps) qs (held_more r n h) =
     let e : i + 1 + length ps ≡ i + length (p ∷ ps) = omega arith in
-    subst (λ k. Held ds gs os k qs) e (held_past (i + 1) ps qs h)
+    subst (λ k. Held ms k qs) e (held_past (i + 1) ps qs h)
 
 -- past some units
-pub held_after : {ds gs os : List ℕ} {i : ℕ} (us vs : List TextUnit) → Held ds gs os i (metrics_of (us ++ vs)) →
-    Held ds gs os (i + counts us) (metrics_of vs)
-held_after {ds} {gs} {os} {i} us vs h =
-    subst (λ n. Held ds gs os (i + n) (metrics_of vs)) (length_metrics_before us vs)
-    (held_past i (metrics_before us vs) (metrics_of vs) (subst (λ qs. Held ds gs os i qs) (metrics_split us vs) h))
+pub held_after : {ms : Metrics} {i : ℕ} (us vs : List TextUnit) → Held ms i (metrics_of (us ++ vs)) →
+    Held ms (i + counts us) (metrics_of vs)
+held_after {ms} {i} us vs h =
+    subst (λ n. Held ms (i + n) (metrics_of vs)) (length_metrics_before us vs)
+    (held_past i (metrics_before us vs) (metrics_of vs) (subst (λ qs. Held ms i qs) (metrics_split us vs) h))
 
--- metrics in other tables ------------------------------------------------------------------------------------------
+-- metrics held elsewhere -------------------------------------------------------------------------------------------
 
-abbrev pub metrics_at : List ℕ → List ℕ → List ℕ → ℕ → ℕ × ℕ × ℕ
-metrics_at ds gs os i = (get_or ds i 0, get_or gs i 0, get_or os i 0)
+abbrev pub metrics_at : Metrics → ℕ → ℕ × Gap × ℕ
+metrics_at ms i = (get_or ms.advances i 0, get_or ms.gaps i no_gaps, get_or ms.offsets i 0)
 
--- metrics that stand in other tables, before some that follow there
-pub held_joined : {ds gs os ds' gs' os' : List ℕ} {i : ℕ} (j : ℕ) (ps qs qs' : List Metrics) →
-    Held ds gs os i (ps ++ qs) →
-    ((k : ℕ) → k < length ps → metrics_at ds' gs' os' (j + k) ≡ metrics_at ds gs os (i + k)) → (qs' ≡ [] → qs ≡ []) →
-    Held ds' gs' os' (j + length ps) qs' → Held ds' gs' os' j (ps ++ qs')
-held_joined {ds' = ds'} {gs'} {os'} j [] qs qs' h f l t = subst (λ n. Held ds' gs' os' n qs') (add-zero j) t
-held_joined {ds} {gs} {os} {ds'} {gs'} {os'} {i} j (p ∷ ps) qs qs' (held_more w z h) f l t =
+-- metrics that are held elsewhere, before some that follow there
+pub held_joined : {ms ms' : Metrics} {i : ℕ} (j : ℕ) (ps qs qs' : List RecordMetrics) →
+    Held ms i (ps ++ qs) →
+    ((k : ℕ) → k < length ps → metrics_at ms' (j + k) ≡ metrics_at ms (i + k)) → (qs' ≡ [] → qs ≡ []) →
+    Held ms' (j + length ps) qs' → Held ms' j (ps ++ qs')
+held_joined {ms' = ms'} j [] qs qs' h f l t = subst (λ n. Held ms' n qs') (add-zero j) t
+held_joined {ms} {ms'} {i} j (p ∷ ps) qs qs' (held_more w z h) f l t =
     let a : j + 1 + length ps ≡ j + length (p ∷ ps) = omega arith in
-    held_more (subst (λ (r : ℕ × ℕ × ℕ). MetricsAre p r.0 r.1 r.2) (sym first) w) (λ e. z (none ps e))
+    held_more (subst (λ (r : ℕ × Gap × ℕ). MetricsAre p r.0 r.1 r.2) (sym first) w) (λ e. z (none ps e))
     (held_joined {i = i + 1} (j + 1) ps qs qs' h later l (rw (← a) at t))
   where
-    first : metrics_at ds' gs' os' j ≡ metrics_at ds gs os i
+    first : metrics_at ms' j ≡ metrics_at ms i
     first = simp add-zero at (f 0 (omega arith))
 
-    later : (k : ℕ) → k < length ps → metrics_at ds' gs' os' (j + 1 + k) ≡ metrics_at ds gs os (i + 1 + k)
+    later : (k : ℕ) → k < length ps → metrics_at ms' (j + 1 + k) ≡ metrics_at ms (i + 1 + k)
     later k n =
         let b : j + (k + 1) ≡ j + 1 + k = omega arith in
         let c : i + (k + 1) ≡ i + 1 + k = omega arith in
         rw (b, c) at (f (k + 1) (omega arith))
 
-    none : (ps : List Metrics) → ps ++ qs' ≡ [] → ps ++ qs ≡ []
+    none : (ps : List RecordMetrics) → ps ++ qs' ≡ [] → ps ++ qs ≡ []
     none [] e = l e
     none (p ∷ ps) e = absurd (nil_cons (sym e))

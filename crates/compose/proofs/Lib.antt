@@ -8,7 +8,7 @@ pub mod Faults
 pub mod GroupFaults
 pub mod Checked
 pub mod Answers
--- metrics: of some units, as tables hold them, stored, and the same below a record
+-- metrics: of some units, as they are held, stored, and the same below a record
 pub mod HeldMetrics
 pub mod MetricsBelow
 pub mod PutMetrics

@@ -1,9 +1,6 @@
 -- The bounds of sound records, and of units of at most 16 of them: sizes to 4,000, group advances to 128,000.
 -- Assumes nothing.
-use mathlib.Core.Path.{◌≡◌, ◌∙◌}
-use Prim.Native.Nat.{ℕ, ◌+◌, ◌-◌, ◌≤◌, ◌<◌}
-use native.Mathlib.Omega.{arith}
-use mathlib.Core.List.{List}
+use Rattle.std.proofs.Common.{◌≡◌, ◌∙◌, ℕ, ◌+◌, ◌-◌, ◌≤◌, ◌<◌, arith, List}
 use Rattle.rules.specs.Limits.{largest_advance}
 use Rattle.rules.specs.Records.{rec_at, records}
 use Rattle.rules.specs.Sides.{side_by}

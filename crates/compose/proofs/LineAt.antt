@@ -1,27 +1,25 @@
 -- The line between two records is the one that ends there, and the search gives the line from a record on.
 -- Assumes nothing.
-use mathlib.Core.Path.{◌≡◌, refl, ap, ◌∙◌}
-use Prim.Native.Nat.{ℕ, suc, ◌+◌, ◌-◌, ◌<◌}
-use native.Mathlib.Omega.{arith}
-use mathlib.Core.List.{List, [], ◌∷◌, ◌++◌}
-use mathlib.Core.Logic.{inl, inr}
-use lib.ListN.{length}
-use borrow.Author.Tests.{le-leb, lt-leb}
+use Rattle.std.proofs.Common.{◌≡◌, refl, ap, ◌∙◌, ℕ, suc, ◌+◌, ◌-◌, ◌<◌, arith, List, [], ◌∷◌, ◌++◌, inl, inr, length}
+use Rattle.std.proofs.Common.{le-leb}
+use borrow.Author.Tests.{lt-leb}
 use Rattle.rules.specs.Basics.{Run, whole, extended, joined}
 use Rattle.rules.specs.Groups.{TextUnit, count, counts}
 use Rattle.rules.specs.Breaks.{width, runs, wide_run, filled, breaking}
 use Rattle.rules.specs.Adjustment.{gaps_of}
-use Rattle.rules.specs.Packed.{AtMost, unpacked}
-use Rattle.rules.proofs.Decisions.{ordered}
+use Rattle.rules.specs.Gaps.{no_gaps}
+use Rattle.rules.specs.Packed.{Packs, AtMost}
+use Rattle.std.proofs.lemmas.Bool.{cases_lt}
 use Rattle.compose.specs.Limits.{most_gaps}
 use Rattle.compose.specs.Paragraph.{record_count, units_from, unit_at, next_at}
 use Rattle.compose.specs.Lines.{up_to, line_at}
-use Rattle.compose.specs.LineFrom.{LineDue, LineFrom}
+use Rattle.compose.specs.LineFrom.{LineDue, NoLine, LineFrom}
 use Rattle.compose.specs.declared.breaking.LineSums.{LineSums}
 use Rattle.compose.proofs.GapSums.{nothing_plus}
 use Rattle.compose.proofs.UnitsFrom.{unit_step, from_after, runs_some}
 use Rattle.compose.proofs.Sums.{Sums, no_units, onto, units_sums, reach_width}
 use Rattle.compose.proofs.SearchByRuns.{by_runs, Begun, begun_first, begun_more, after, after_more}
+use Rattle.compose.specs.declared.metrics.Metrics.{Metrics}
 
 -- the units of whole lines are taken back whole
 up_to_all : (us vs : List TextUnit) → up_to (counts us) (us ++ vs) ≡ us
@@ -46,17 +44,22 @@ line_is ws i l vs h e =
     rw (n, ← q, up_to_all, ← p)
 
 abbrev pub sums_by : LineSums → Sums
-sums_by l = record { end = l.end; solid = l.solid; gaps = unpacked l.gaps }
+sums_by l = record { end = l.end; solid = l.solid; gaps = l.gaps }
 
 -- what the search from record i on gives
 abbrev pub given : List ℕ → ℕ → ℕ → ℕ → Sums
 given ws i m x = by_runs m (runs (units_from ws i)) (no_units i x) (no_units i x)
 
-module _ {ws ds gs os : List ℕ} {i m x : ℕ} (p : LineDue ws ds gs os i m x) {r : LineSums}
-    (b : AtMost most_gaps (unpacked r.gaps)) where
+-- what a search gives that remembers no line by the record that it starts with
+pub record Searched (ws : List ℕ) (i m x : ℕ) (r : LineSums) : Type 0 where
+  pub none_fits : r.end ≡ i → NoLine ws i m x
+  pub line : (r.end ≡ i → ⊥) → LineFrom ws i m x r
+
+module _ {ws : List ℕ} {ms : Metrics} {i m x : ℕ} (p : LineDue ws ms i m x) {r : LineSums}
+    (b : AtMost most_gaps r.gaps) (packs : Packs r.gaps) where
   -- a line takes none of the runs that are left
   line_taken : (l : Run TextUnit) (ks : List (Run TextUnit)) → Begun m x i (units_from ws i) l ks →
-      filled m x l ks ≡ l ∷ breaking m 0 ks → sums_by r ≡ onto (no_units i x) l → LineFrom ws i m x r
+      filled m x l ks ≡ l ∷ breaking m 0 ks → sums_by r ≡ onto (no_units i x) l → Searched ws i m x r
   unfolding counts
   line_taken l ks q h e =
       let s = e ∙ units_sums (no_units i x) l.first l.rest in
@@ -65,50 +68,64 @@ module _ {ws ds gs os : List ℕ} {i m x : ℕ} (p : LineDue ws ds gs os i m x) 
       let j : r.end ≡ i + counts (whole l) = ap (λ f. f.end) s in
       record {
         none_fits = λ z. absurd (omega arith);
-        taken = λ z.
-            rw j
-            (record {
-              some = omega arith;
-              within = a.1;
-              ends = rw n;
-              joins_up = rw (n, ← a.0) q.joins_up;
-              fits = rw n q.fits;
-              lines = rw (n, ← a.0, q.left) (q.lines ∙ h);
-              wide = rw (← a.0, q.left) q.wide;
-            });
-        sums = λ z.
-            rw j
-            (record {
-              solid_is = rw n (ap (λ f. f.solid) s);
-              gaps_are = rw n (ap (λ f. f.gaps) s ∙ nothing_plus (gaps_of l));
-              gaps_limit = b;
-              solid_limit = omega (arith, ap (λ f. f.solid) e, reach_width i x l);
-            });
+        line = λ z.
+            record {
+              taken =
+                  rw j
+                  (record {
+                    some = omega arith;
+                    within = a.1;
+                    ends = rw n;
+                    joins_up = rw (n, ← a.0) q.joins_up;
+                    fits = rw n q.fits;
+                    lines = rw (n, ← a.0, q.left) (q.lines ∙ h);
+                    wide = rw (← a.0, q.left) q.wide;
+                  });
+              sums =
+                  rw j
+                  (record {
+                    solid_is = rw n (ap (λ f. f.solid) s);
+                    gaps_are = rw n (ap (λ f. f.gaps) s ∙ nothing_plus (gaps_of l));
+                    gaps_limit = b;
+                    packs = packs;
+                    solid_limit = omega (arith, ap (λ f. f.solid) e, reach_width i x l);
+                  });
+            };
       }
 
   line_after : (l : Run TextUnit) (ks : List (Run TextUnit)) → Begun m x i (units_from ws i) l ks →
-      sums_by r ≡ after m x i l ks → LineFrom ws i m x r
+      sums_by r ≡ after m x i l ks → Searched ws i m x r
   unfolding by_runs filled breaking
   line_after l [] q e = line_taken l [] q refl e
   line_after l (k ∷ ks) q e =
       let h = e ∙ after_more m x i l k ks in
-      elim (ordered m (x + width (extended l k))) [
+      elim (cases_lt m (x + width (extended l k))) [
         | inl o ↦ line_taken l (k ∷ ks) q (rw (filled, lt-leb _ _ o)) (rw (lt-leb _ _ o) at h)
         | inr o ↦ line_after (extended l k) ks (begun_more l k ks q o) (rw (le-leb _ _ o) at h)
       ]
 
-  pub line_found : sums_by r ≡ given ws i m x → LineFrom ws i m x r
+  pub line_found : sums_by r ≡ given ws i m x → Searched ws i m x r
   unfolding by_runs wide_run
   line_found e =
       let f = runs_some ws i p.inside in
       let h = rw (f.2, by_runs, reach_width i x f.0) at e in
-      elim (ordered m (x + width f.0)) [
+      elim (cases_lt m (x + width f.0)) [
         | inl o ↦
             let j : r.end ≡ i = ap (λ s. s.end) (rw (lt-leb _ _ o) at h) in
             record {
               none_fits = λ z. rw (f.2, wide_run, lt-leb _ _ o);
-              taken = λ z. absurd (z j);
-              sums = λ z. absurd (z j);
+              line = λ z. absurd (z j);
             }
         | inr o ↦ line_after f.0 f.1 (begun_first f.0 f.1 f.2 o) (rw (le-leb _ _ o) at h)
       ]
+
+-- the line that a search remembers, if it remembers one
+module _ {ws : List ℕ} {ms : Metrics} {i m x : ℕ} (p : LineDue ws ms i m x) where
+  pub found_none : no_units i x ≡ given ws i m x → NoLine ws i m x
+  found_none e =
+      let r : LineSums = record { end = i; solid = x; gaps = no_gaps } in
+      (line_found p {r = r} (omega arith) (omega arith) e).none_fits refl
+
+  pub found_line : (l : LineSums) → AtMost most_gaps l.gaps → Packs l.gaps → i < l.end →
+      sums_by l ≡ given ws i m x → LineFrom ws i m x l
+  found_line l b packs h e = (line_found p b packs e).line (λ z. omega arith)

@@ -1,28 +1,35 @@
 -- What is left of a paragraph from a record on, where a line starts: both loops over lines carry it. Its lines: none
 -- after the last record; the first, and those after it. Assumes nothing.
-use mathlib.Core.Path.{◌≡◌, sym, ◌∙◌}
-use Prim.Native.Nat.{ℕ, ◌≤◌, ◌<◌}
-use native.Mathlib.Omega.{arith}
-use native.Mathlib.Nat.{sub-zero}
-use mathlib.Core.List.{List, [], ◌∷◌}
-use mathlib.Core.Option.{none, some}
-use mathlib.Core.Logic.{inl, inr}
-use lib.Dec.{eqb}
-use borrow.Author.Tests.{eq-eqb, ne_eqb}
+use Rattle.std.proofs.Common.{◌≡◌, sym, ◌∙◌, ℕ, ◌≤◌, arith, List, [], ◌∷◌, None, inl, inr, eqb, eq-eqb, ne_eqb}
+use Rattle.std.proofs.Math.Nat.{sub-zero}
 use Rattle.rules.specs.Layout.{most_records}
 use Rattle.rules.specs.Limits.{largest_measure}
 use Rattle.rules.specs.Basics.{whole}
 use Rattle.rules.specs.Groups.{units}
 use Rattle.rules.specs.Breaks.{runs, wide_run, no_breaking, breaking}
 use Rattle.rules.specs.Adjustment.{is_empty, line_of, lines_of, compose}
-use Rattle.rules.proofs.Decisions.{ordered}
+use Rattle.std.proofs.lemmas.Bool.{cases_lt}
 use Rattle.rules.proofs.Breaking.{filled_first}
 use Rattle.compose.specs.Paragraph.{record_count, paragraph, units_from}
 use Rattle.compose.specs.Metrics.{MetricsFrom}
 use Rattle.compose.specs.Lines.{line_at}
-use Rattle.compose.specs.LineFrom.{LineDue, LineTaken, ToBreak}
+use Rattle.compose.specs.LineFrom.{LineTaken, NoLine, TooWideAt}
 use Rattle.compose.proofs.HeldMetrics.{held_after}
 use Rattle.compose.proofs.UnitsFrom.{runs_end, runs_some}
+use Rattle.rules.specs.declared.measure.Measure.{Measure}
+use Rattle.compose.specs.declared.metrics.Metrics.{Metrics}
+use Rattle.compose.specs.declared.breaking.Scanned.{Scanned}
+
+-- a paragraph's metrics, a measure and an indent within limits
+pub record ToBreak (ws : List ℕ) (ms : Metrics) (m x : ℕ) : Type 0 where
+  pub few : record_count ws ≤ most_records
+  pub metrics : MetricsFrom ws ms 0
+  pub measure : m ≤ largest_measure
+  pub indent : x ≤ largest_measure
+
+pub to_break : (s : Scanned) (m : Measure) → ToBreak s.paragraph.words.now s.metrics.now m.measure m.indent
+to_break s m =
+    record { few = s.paragraph.few; metrics = s.filled; measure = m.within.0; indent = m.within.1 }
 
 -- the paragraph's units are those from its first record on
 pub from_start : (ws : List ℕ) → units_from ws 0 ≡ units (paragraph ws)
@@ -30,37 +37,33 @@ unfolding units_from
 from_start ws = rw sub-zero
 
 -- what is left from record i on, where a line starts at `start`: its metrics, and the place of answer 10
-pub record Left (ws ds gs os : List ℕ) (i m x start : ℕ) : Type 0 where
+pub record Left (ws : List ℕ) (ms : Metrics) (i m x start : ℕ) : Type 0 where
   pub few : record_count ws ≤ most_records
   pub within : i ≤ record_count ws
-  pub metrics : MetricsFrom ws ds gs os i
+  pub metrics : MetricsFrom ws ms i
   pub measure : m ≤ largest_measure
   pub indent : start ≤ largest_measure
   pub wide : wide_run m start i (runs (units_from ws i)) ≡ no_breaking m x (units (paragraph ws))
 
-module _ {ws ds gs os : List ℕ} {m x : ℕ} where
-  pub left_start : ToBreak ws ds gs os m x → Left ws ds gs os 0 m x x
+module _ {ws : List ℕ} {ms : Metrics} {m x : ℕ} where
+  pub left_start : ToBreak ws ms m x → Left ws ms 0 m x x
   unfolding no_breaking
   left_start p = search (from_start, arith)
 
-  module _ {i start : ℕ} (q : Left ws ds gs os i m x start) where
+  module _ {i start : ℕ} (q : Left ws ms i m x start) where
     -- nothing is left, and every run fits
-    pub left_none : record_count ws ≤ i → no_breaking m x (units (paragraph ws)) ≡ none
+    pub left_none : record_count ws ≤ i → no_breaking m x (units (paragraph ws)) ≡ None
     unfolding wide_run
     left_none h = sym q.wide ∙ rw (runs_end ws i h)
 
-    pub left_line : i < record_count ws → LineDue ws ds gs os i m start
-    left_line h = search
-
     -- no line fits
-    pub left_stop : wide_run m start i (runs (units_from ws i)) ≡ some i →
-        no_breaking m x (units (paragraph ws)) ≡ some i
+    pub left_stop : NoLine ws i m start → TooWideAt ws m x i
     left_stop e = cc
 
     -- one line is taken
-    pub left_more : {j : ℕ} → LineTaken ws i j m start → Left ws ds gs os j m x 0
+    pub left_more : {j : ℕ} → LineTaken ws i j m start → Left ws ms j m x 0
     left_more {j} t =
-        let metrics : MetricsFrom ws ds gs os j =
+        let metrics : MetricsFrom ws ms j =
         rw t.ends at (held_after (whole (line_at ws i j)) (units_from ws j) (rw (← t.joins_up) at q.metrics)) in
         let wide : wide_run m 0 j (runs (units_from ws j)) ≡ no_breaking m x (units (paragraph ws)) = cc in
         search arith
@@ -76,7 +79,7 @@ last_is : (ws : List ℕ) (m j : ℕ) → j ≤ record_count ws →
     is_empty (breaking m 0 (runs (units_from ws j))) ≡ eqb j (record_count ws)
 unfolding breaking
 last_is ws m j h =
-    elim (ordered j (record_count ws)) [
+    elim (cases_lt j (record_count ws)) [
       | inl g ↦ rw (ne_eqb j (record_count ws) (λ e. omega arith), (runs_some ws j g).2, (filled_first m 0 _ _).2)
       | inr g ↦ rw (eq-eqb j (record_count ws) (omega arith), runs_end ws j g)
     ]

@@ -1,23 +1,21 @@
 -- Tables that have the same metrics below a record, one change after the other. Assumes nothing.
-use mathlib.Core.Path.{refl, ◌∙◌}
-use Prim.Native.Nat.{ℕ, ◌≤◌}
-use native.Mathlib.Omega.{arith}
-use mathlib.Core.List.{List}
+use Rattle.std.proofs.Common.{refl, ◌∙◌, ℕ, ◌≤◌, arith}
 use Rattle.compose.specs.Scan.{MetricsBelow}
+use Rattle.compose.specs.declared.metrics.Metrics.{Metrics}
 
-pub below_refl : (n : ℕ) (ds gs os : List ℕ) → MetricsBelow n ds gs os ds gs os
-below_refl n ds gs os = record { advances = λ k h. refl; gaps = λ k h. refl; offsets = λ k h. refl }
+pub below_refl : (n : ℕ) (ms : Metrics) → MetricsBelow n ms ms
+below_refl n ms = record { advances = λ k d h. refl; gaps = λ k d h. refl; offsets = λ k d h. refl }
 
-pub below_trans : {n k : ℕ} {ds₀ gs₀ os₀ ds₁ gs₁ os₁ ds₂ gs₂ os₂ : List ℕ} →
-    MetricsBelow n ds₀ gs₀ os₀ ds₁ gs₁ os₁ →
-    MetricsBelow k ds₁ gs₁ os₁ ds₂ gs₂ os₂ → k ≤ n → MetricsBelow k ds₀ gs₀ os₀ ds₂ gs₂ os₂
+pub below_trans : {n k : ℕ} {ms₀ ms₁ ms₂ : Metrics} →
+    MetricsBelow n ms₀ ms₁ →
+    MetricsBelow k ms₁ ms₂ → k ≤ n → MetricsBelow k ms₀ ms₂
 below_trans a b l =
     record {
-      advances = λ m h. b.advances m h ∙ a.advances m (omega arith);
-      gaps = λ m h. b.gaps m h ∙ a.gaps m (omega arith);
-      offsets = λ m h. b.offsets m h ∙ a.offsets m (omega arith);
+      advances = λ m d h. b.advances m d h ∙ a.advances m d (omega arith);
+      gaps = λ m d h. b.gaps m d h ∙ a.gaps m d (omega arith);
+      offsets = λ m d h. b.offsets m d h ∙ a.offsets m d (omega arith);
     }
 
-pub below_less : {n k : ℕ} {ds₀ gs₀ os₀ ds gs os : List ℕ} → MetricsBelow n ds₀ gs₀ os₀ ds gs os → k ≤ n →
-    MetricsBelow k ds₀ gs₀ os₀ ds gs os
-below_less b l = below_trans b (below_refl _ _ _ _) l
+pub below_less : {n k : ℕ} {ms₀ ms : Metrics} → MetricsBelow n ms₀ ms → k ≤ n →
+    MetricsBelow k ms₀ ms
+below_less b l = below_trans b (below_refl _ _) l

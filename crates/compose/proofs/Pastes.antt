@@ -1,12 +1,7 @@
 -- Words written one after the other over those of a list, from an offset on. Assumes nothing.
-use mathlib.Core.Path.{◌≡◌, refl, ap, ◌∙◌}
-use Prim.Native.Nat.{ℕ, ◌+◌, ◌≤◌}
-use native.Mathlib.Omega.{arith}
-use native.Mathlib.Nat.{add_assoc}
-use mathlib.Core.List.{List, ◌++◌, append_assoc}
-use lib.ListN.{length, take, drop, length-append, length-drop}
-use lib.Seq.{take_all, take_at, drop_at, take-add, drop-drop}
-use lib.Seq.{paste, paste-zero, take-paste, drop-paste, length-paste}
+use Rattle.std.proofs.Common.{◌≡◌, refl, ap, ◌∙◌, ℕ, ◌+◌, ◌≤◌, arith, add_assoc, List, ◌++◌, append_assoc, length}
+use Rattle.std.proofs.Common.{take, drop, length-append, length-drop, take_all, take_at, drop_at, take-add, drop-drop}
+use Rattle.std.proofs.Math.Seq.{paste, paste-zero, take-paste, drop-paste, length-paste}
 
 -- the first m words of ps stand over those of d from `off` on, which gives qs; `left` of ps is still to be written
 pub record Pasting (d : List ℕ) (off : ℕ) (ps : List ℕ) (m : ℕ) (left qs : List ℕ) : Type 0 where

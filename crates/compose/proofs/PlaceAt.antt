@@ -1,9 +1,6 @@
 -- Cumulative shares of amounts: no gap gives more than it has, and where the unit after some gaps starts. Assumes
 -- nothing.
-use mathlib.Core.Path.{◌≡◌}
-use Prim.Native.Nat.{ℕ, ◌+◌, ◌≤◌}
-use native.Mathlib.Omega.{arith}
-use mathlib.Core.List.{List, [], ◌∷◌}
+use Rattle.std.proofs.Common.{◌≡◌, ℕ, ◌+◌, ◌≤◌, arith, List, [], ◌∷◌}
 use Rattle.rules.specs.Groups.{TextUnit, advance}
 use Rattle.rules.specs.Gaps.{Gap}
 use Rattle.rules.specs.Breaks.{gap}
@@ -13,7 +10,6 @@ use Rattle.rules.proofs.Shares.{none_yet, ending_sum}
 use Rattle.rules.proofs.Widths.{gives}
 use Rattle.compose.specs.Limits.{largest_place}
 use Rattle.compose.specs.Rates.{cumulative_shares, place_by, RateBounds, Placeable}
-use Rattle.compose.specs.declared.adjustment.Rates.{Rates}
 use Rattle.compose.proofs.Rates.{share_within, share_cap}
 
 -- before the first gap nothing is shared
@@ -76,10 +72,14 @@ pub record ShareBounds (e : Amounts) (c s : Gap) : Type 0 where
   pub stretch₁ : (cumulative_shares e c s).stretch₁ ≤ e.stretch₁
   pub stretch₂ : (cumulative_shares e c s).stretch₂ ≤ e.stretch₂
 
-module _ {r : Rates} {e : Amounts} {c : Gap} {solid : ℕ} {s : Gap} (p : Placeable r e c solid s) where
+module _ {e : Amounts} {c : Gap} (b : RateBounds e c) {solid : ℕ} {s : Gap} (p : Placeable c solid s) where
   pub share_bounds : ShareBounds e c s
   share_bounds = search (shares_given, share_within)
 
+  -- the same of gaps z that are s, unpacked
+  pub unpacked_shares : {z : Gap} → z ≡ s → Placeable c solid z × ShareBounds e c z
+  unpacked_shares q = rw q (p, share_bounds)
+
   pub place_limit : place_by e c solid s ≤ largest_place
   unfolding place_by
-  place_limit = omega (arith, share_bounds, p)
+  place_limit = omega (arith, share_bounds, b, p)

@@ -1,65 +1,57 @@
--- What `put_metrics` leaves: the tables hold the metrics stored, and the others stay. Assumes nothing.
-use mathlib.Core.Path.{◌≡◌}
-use Prim.Native.Nat.{ℕ, ◌≤◌, ◌<◌}
-use native.Mathlib.Omega.{arith}
-use mathlib.Core.List.{List}
-use lib.ListN.{get_or, set, length-set}
-use lib.Seq.{get_or-set_same, get_or-set_other}
+-- What `put` leaves: the metrics stored, and the others as they were. Assumes nothing.
+use Rattle.std.proofs.Common.{◌≡◌, ℕ, ◌+◌, ◌*◌, ◌≤◌, ◌<◌, arith, List, Bool, length, length-set, get_or-set_same}
+use Rattle.std.proofs.Common.{get_or-set_other}
 use Rattle.rules.specs.Layout.{most_records}
-use Rattle.compose.specs.Metrics.{Metrics, MetricsAre, Held, held_none, held_more}
-use Rattle.compose.specs.Scan.{Rooms, MetricsBelow}
+use Rattle.rules.specs.Gaps.{Gap, no_gaps}
+use Rattle.compose.specs.Metrics.{RecordMetrics, bit, MetricsAre, MetricsAt, Stored, Held, held_none, held_more}
+use Rattle.compose.specs.Scan.{MetricsBelow}
+use Rattle.compose.specs.declared.metrics.Metrics.{Metrics}
 
--- the three words of the metrics of record i
-abbrev pub MetricsAt : Metrics → List ℕ → List ℕ → List ℕ → ℕ → Type 0
-MetricsAt q ds gs os i = MetricsAre q (get_or ds i 0) (get_or gs i 0) (get_or os i 0)
+pub metrics_below : {q : RecordMetrics} {n i : ℕ} {ms ms' : Metrics} → MetricsBelow n ms ms' →
+    i < n → MetricsAt q ms i → MetricsAt q ms' i
+metrics_below {i = i} b l h = rw (b.advances i 0 l, b.gaps i no_gaps l, b.offsets i 0 l) h
 
-pub metrics_below : {q : Metrics} {n i : ℕ} {ds gs os ds' gs' os' : List ℕ} → MetricsBelow n ds gs os ds' gs' os' →
-    i < n → MetricsAt q ds gs os i → MetricsAt q ds' gs' os' i
-metrics_below {i = i} b l h = rw (b.advances i l, b.gaps i l, b.offsets i l) h
+-- all metrics have room
+pub record Rooms (ms : Metrics) : Type 0 where
+  pub advances : length ms.advances ≡ most_records
+  pub gaps : length ms.gaps ≡ most_records
+  pub offsets : length ms.offsets ≡ most_records
 
--- the metrics of record j are stored
-pub record Stored (j a g o : ℕ) (ds gs os ds' gs' os' : List ℕ) : Type 0 where
-  pub words : (ds' ≡ set ds j a) × ((gs' ≡ set gs j g) × (os' ≡ set os j o))
-
-module _ {j a g o : ℕ} {ds gs os ds' gs' os' : List ℕ} (s : Stored j a g o ds gs os ds' gs' os') where
-  pub metrics_stored : {q : Metrics} → MetricsAre q a g o → Rooms ds gs os → j < most_records →
-      MetricsAt q ds' gs' os' j
+module _ {j a : ℕ} {forbidden : Bool} {g : Gap} {o : ℕ} {ms ms' : Metrics} (s : Stored j a forbidden g o ms ms') where
+  pub metrics_stored : {q : RecordMetrics} → MetricsAre q (2 * a + bit forbidden) g o → Rooms ms → j < most_records →
+      MetricsAt q ms' j
   metrics_stored h m l =
-      let e = s.words in
       rw (
-        e.0,
-        e.1.0,
-        e.1.1,
-        get_or-set_same ds j a 0 (omega arith),
-        get_or-set_same gs j g 0 (omega arith),
-        get_or-set_same os j o 0 (omega arith),
+        s.advances,
+        s.gaps,
+        s.offsets,
+        get_or-set_same ms.advances j (2 * a + bit forbidden) 0 (omega arith),
+        get_or-set_same ms.gaps j g no_gaps (omega arith),
+        get_or-set_same ms.offsets j o 0 (omega arith),
       ) h
 
-  other : (k : ℕ) → (k ≡ j → ⊥) →
-      (get_or ds' k 0 ≡ get_or ds k 0) × (get_or gs' k 0 ≡ get_or gs k 0) × (get_or os' k 0 ≡ get_or os k 0)
-  other k n =
-      let e = s.words in
-      (rw (e.0, get_or-set_other), rw (e.1.0, get_or-set_other), rw (e.1.1, get_or-set_other))
-
-  pub below_stored : {n : ℕ} → n ≤ j → MetricsBelow n ds gs os ds' gs' os'
+  pub below_stored : {n : ℕ} → n ≤ j → MetricsBelow n ms ms'
   below_stored h =
       record {
-        advances = λ k l. (other k (λ e. omega arith)).0;
-        gaps = λ k l. (other k (λ e. omega arith)).1;
-        offsets = λ k l. (other k (λ e. omega arith)).2;
+        advances = λ k d l. let o : k ≡ j → ⊥ = λ e. omega arith in rw (s.advances, get_or-set_other);
+        gaps = λ k d l. let o : k ≡ j → ⊥ = λ e. omega arith in rw (s.gaps, get_or-set_other);
+        offsets = λ k d l. let o : k ≡ j → ⊥ = λ e. omega arith in rw (s.offsets, get_or-set_other);
       }
 
-  pub held_kept : {i : ℕ} {qs : List Metrics} → j < i → Held ds gs os i qs → Held ds' gs' os' i qs
+  -- the metrics of another record
+  other : {q : RecordMetrics} (k : ℕ) → (k ≡ j → ⊥) → MetricsAt q ms k → MetricsAt q ms' k
+  other k n h =
+      rw (s.advances, s.gaps, s.offsets, get_or-set_other, get_or-set_other, get_or-set_other) h
+
+  pub held_kept : {i : ℕ} {qs : List RecordMetrics} → j < i → Held ms i qs → Held ms' i qs
   held_kept l held_none = held_none
   held_kept l (held_more {i = i} w n h) =
-      let o = other i (λ e. omega arith) in
-      held_more (rw (← o.0, ← o.1, ← o.2) at w) n (held_kept (omega arith) h)
+      held_more (other i (λ e. omega arith) w) n (held_kept (omega arith) h)
 
-  pub rooms_kept : Rooms ds gs os → Rooms ds' gs' os'
+  pub rooms_kept : Rooms ms → Rooms ms'
   rooms_kept m =
-      let e = s.words in
       record {
-        advances = rw (e.0, length-set) m.advances;
-        gaps = rw (e.1.0, length-set) m.gaps;
-        offsets = rw (e.1.1, length-set) m.offsets;
+        advances = rw (s.advances, length-set) m.advances;
+        gaps = rw (s.gaps, length-set) m.gaps;
+        offsets = rw (s.offsets, length-set) m.offsets;
       }

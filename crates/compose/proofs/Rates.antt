@@ -1,16 +1,10 @@
 -- Shares by rates: a rate, its product with a capacity, and the share that it gives. Assumes nothing.
-use mathlib.Core.Path.{◌≡◌}
-use Prim.Native.Nat.{ℕ, zero, suc, ◌+◌, ◌*◌, ◌/◌, ◌^◌, ◌≤◌, ◌<◌}
-use native.Mathlib.Omega.{arith}
-use native.Mathlib.Nat.{mul-zero, zero-div, div-mul-le_self, div-le_self, lt-div-mul-add}
-use native.Mathlib.Nat.{mul-le-mul, mul-le-mul_left, mul-le-mul_right, div-eq_of_lt-le, div-le_of_le-mul, mul_comm}
-use native.Mathlib.Nat.{le_of_mul-le-mul_right, lt_of_mul-lt-mul_right}
+use Rattle.std.proofs.Common.{◌≡◌, ℕ, zero, suc, ◌+◌, ◌*◌, ◌/◌, ◌^◌, ◌≤◌, ◌<◌, arith, mul-zero, div-mul-le_self}
+use Rattle.std.proofs.Common.{mul-le-mul, mul-le-mul_left, mul-le-mul_right, mul_comm, le_of_mul-le-mul_right}
+use Rattle.std.proofs.Common.{lt_of_mul-lt-mul_right}
+use Rattle.std.proofs.Math.Nat.{zero-div, lt-div-mul-add, div-eq_of_lt-le, div-le_of_le-mul}
 use Rattle.compose.specs.Limits.{parts, largest_amount, largest_capacity}
 use Rattle.compose.specs.Rates.{rate_of}
-
--- a rate fits 64 bits
-pub rate_fits : (e c : ℕ) → e ≤ largest_amount → e * parts / c + 1 < 2 ^ 64
-rate_fits e c h = omega (arith, div-le_self (e * parts) c)
 
 -- and so does its product with a part of the capacity
 pub product_fits : (e s c : ℕ) → e ≤ largest_amount → s ≤ c → c ≤ largest_capacity → rate_of e c * s < 2 ^ 64

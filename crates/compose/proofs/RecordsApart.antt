@@ -1,14 +1,8 @@
 -- Where a paragraph's records are cut between groups, so are its units, its metrics and what answer 9 says of them.
 -- Assumes nothing.
-use mathlib.Core.Path.{◌≡◌, refl, ap, sym, ◌∙◌}
-use Prim.Native.Nat.{ℕ, zero, suc, ◌+◌, ◌-◌, ◌≤◌, ◌<◌}
-use native.Mathlib.Omega.{arith}
-use native.Mathlib.Nat.{add-zero, zero-add, sub-zero}
-use mathlib.Core.Bool.{false}
-use mathlib.Core.List.{List, ◌++◌, append-nil}
-use mathlib.Core.Logic.{◌↔◌}
-use mathlib.Core.Option.{none}
-use lib.ListN.{take-append-drop}
+use Rattle.std.proofs.Common.{◌≡◌, refl, ap, sym, ◌∙◌, ℕ, zero, suc, ◌+◌, ◌-◌, ◌≤◌, ◌<◌, arith, add-zero, zero-add}
+use Rattle.std.proofs.Common.{false, List, ◌++◌, append-nil, ◌↔◌, None, take-append-drop}
+use Rattle.std.proofs.Math.Nat.{sub-zero}
 use Rattle.rules.specs.Basics.{cut}
 use Rattle.rules.specs.Records.{Rec, rec_at, records}
 use Rattle.rules.specs.Groups.{same_group, group_fault, units, counts}
@@ -21,6 +15,7 @@ use Rattle.compose.specs.Metrics.{MetricsFrom}
 use Rattle.compose.proofs.GroupFaults.{fault_meet, Meet, meet_first, meet_last, meet_apart}
 use Rattle.compose.proofs.UnitsFrom.{records_left}
 use Rattle.compose.proofs.HeldMetrics.{held_after}
+use Rattle.compose.specs.declared.metrics.Metrics.{Metrics}
 
 last_record : (ws : List ℕ) (i n : ℕ) → last_of (rec_at ws i) (records ws (suc i) n) ≡ rec_at ws (i + n)
 unfolding records
@@ -54,15 +49,15 @@ module _ (ws : List ℕ) (a : ℕ) (h : a ≤ record_count ws)
   records_meet : Meet (records ws 0 a) (records ws a (record_count ws - a))
   records_meet = meet ws a (record_count ws - a) (λ g l. e g (omega arith))
 
-  pub faults_apart : (group_fault (paragraph ws) ≡ none) ↔
-      ((group_fault (records ws 0 a) ≡ none) × (group_fault (records ws a (record_count ws - a)) ≡ none))
+  pub faults_apart : (group_fault (paragraph ws) ≡ None) ↔
+      ((group_fault (records ws 0 a) ≡ None) × (group_fault (records ws a (record_count ws - a)) ≡ None))
   faults_apart = rw (← records_apart) (fault_meet records_meet)
 
   pub from_apart : units (records ws 0 a) ++ units_from ws a ≡ units_from ws 0
   unfolding units_from
   from_apart = sym (units_meet records_meet) ∙ ap (λ rs. units rs) (rw sub-zero records_apart)
 
-  pub metrics_from : {ds gs os : List ℕ} → MetricsFrom ws ds gs os 0 → MetricsFrom ws ds gs os a
+  pub metrics_from : {ms : Metrics} → MetricsFrom ws ms 0 → MetricsFrom ws ms a
   metrics_from r =
       let n : counts (units (records ws 0 a)) ≡ a = counts_units (records ws 0 a) ∙ length_records ws 0 a in
       rw (n, zero-add) at (held_after (units (records ws 0 a)) (units_from ws a) (rw (← from_apart) at r))

@@ -1,31 +1,25 @@
 -- The search for the longest line from record to record gives what the search by runs gives. Assumes nothing.
-use mathlib.Core.Path.{◌≡◌, refl, ◌∙◌}
-use Prim.Native.Nat.{ℕ, ◌+◌, ◌≤◌, ◌<◌}
-use native.Mathlib.Omega.{arith}
-use native.Mathlib.Nat.{add-zero}
-use mathlib.Core.Bool.{cond}
-use mathlib.Core.List.{List, [], ◌∷◌, ◌++◌}
-use mathlib.Core.Logic.{inl, inr}
-use lib.ListN.{length}
-use borrow.Author.Tests.{le-leb, lt-leb}
+use Rattle.std.proofs.Common.{◌≡◌, refl, ◌∙◌, ℕ, ◌+◌, ◌≤◌, ◌<◌, arith, add-zero, cond, List, [], ◌∷◌, ◌++◌, inl, inr}
+use Rattle.std.proofs.Common.{length, le-leb}
+use borrow.Author.Tests.{lt-leb}
 use Rattle.rules.specs.Basics.{Run, alone, link, cut}
 use Rattle.rules.specs.Groups.{TextUnit, advance, offsets, base_offsets}
 use Rattle.rules.specs.Breaks.{forbidden_between, gap, runs}
-use Rattle.rules.proofs.Decisions.{tested, ordered}
+use Rattle.std.proofs.lemmas.Bool.{cases_Bool, cases_lt}
 use Rattle.rules.proofs.Cuts.{cut_first}
 use Rattle.rules.proofs.WordCounts.{length_base_offsets}
-use Rattle.compose.specs.Metrics.{Metrics, outer, unit_metrics, metrics_of}
+use Rattle.compose.specs.Metrics.{RecordMetrics, outer, unit_metrics, metrics_of}
 use Rattle.compose.proofs.Sums.{Sums, moved, spaced, onto, onto_units, reach, reach_more}
 use Rattle.compose.proofs.SearchByRuns.{fitted, by_runs}
 
-unfoldable pub searched : ℕ → List Metrics → Sums → Sums → Sums
+unfoldable pub searched : ℕ → List RecordMetrics → Sums → Sums → Sums
 searched m [] s b = b
 searched m (q ∷ qs) s b =
     let t = moved s 1 q.advance in
     fitted m t (searched m qs (spaced t q.gap) (cond q.forbidden b t)) b
 
 -- the search after a unit, up to which the sums are t
-abbrev onward : ℕ → TextUnit → List TextUnit → List Metrics → Sums → Sums → Sums
+abbrev onward : ℕ → TextUnit → List TextUnit → List RecordMetrics → Sums → Sums → Sums
 onward m u us qs t b =
     fitted m t (searched m qs (spaced t (outer u us 0).gap) (cond (outer u us 0).forbidden b t)) b
 
@@ -33,13 +27,13 @@ module _ (m : ℕ) where
   -- units before others change nothing, where nothing is remembered between them
   fitted_twice : (s t r b : Sums) → reach s ≤ reach t → fitted m s (fitted m t r b) b ≡ fitted m t r b
   fitted_twice s t r b h =
-      elim (ordered m (reach s)) [
+      elim (cases_lt m (reach s)) [
         | inl o ↦ let w : m < reach t = omega arith in rw (lt-leb _ _ o, lt-leb _ _ w)
         | inr o ↦ rw (le-leb _ _ o)
       ]
 
   -- nor do the records of a unit before its last
-  by_unit : (u : TextUnit) (us : List TextUnit) (o : ℕ) (os : List ℕ) (qs : List Metrics) (s b : Sums) →
+  by_unit : (u : TextUnit) (us : List TextUnit) (o : ℕ) (os : List ℕ) (qs : List RecordMetrics) (s b : Sums) →
       searched m (unit_metrics u us (o ∷ os) ++ qs) s b ≡ onward m u us qs (moved s (length (o ∷ os)) (advance u)) b
   unfolding unit_metrics searched
   by_unit u [] o [] qs s b = refl
@@ -63,7 +57,7 @@ module _ (m : ℕ) where
   unit_run u v l ls s b e =
       let t = onto s (alone u) in
       rw (← e)
-      (elim (tested (forbidden_between u l.first)) [
+      (elim (cases_Bool (forbidden_between u l.first)) [
         | inl h ↦
             rw h
             (fitted_twice t (onto (spaced t (gap u l.first)) l) _ b (reach_more t u l.first l.rest))

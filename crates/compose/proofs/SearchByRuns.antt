@@ -1,12 +1,6 @@
 -- The search for the longest line, run by run: what it remembers is the line that `breaking` takes. Assumes nothing.
-use mathlib.Core.Path.{◌≡◌, ap, sym, ◌∙◌}
-use Prim.Native.Nat.{ℕ, ◌+◌, ◌≤◌}
-use native.Mathlib.Omega.{arith}
-use native.Mathlib.Nat.{add_assoc}
-use mathlib.Core.Bool.{cond}
-use mathlib.Core.List.{List, [], ◌∷◌, ◌++◌, append_assoc}
-use lib.Dec.{leb}
-use borrow.Author.Tests.{le-leb}
+use Rattle.std.proofs.Common.{◌≡◌, ap, sym, ◌∙◌, ℕ, ◌+◌, ◌≤◌, arith, add_assoc, cond, List, [], ◌∷◌, ◌++◌}
+use Rattle.std.proofs.Common.{append_assoc, leb, le-leb}
 use Rattle.rules.specs.Basics.{Run, whole, extended, joined}
 use Rattle.rules.specs.Groups.{TextUnit, counts}
 use Rattle.rules.specs.Gaps.{Gap}

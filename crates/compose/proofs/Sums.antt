@@ -1,9 +1,5 @@
 -- The sums that the search for the longest line keeps, and how they grow by a gap and by a run. Assumes nothing.
-use mathlib.Core.Path.{◌≡◌, refl, ◌∙◌}
-use Prim.Native.Nat.{ℕ, ◌+◌, ◌≤◌}
-use native.Mathlib.Omega.{arith}
-use native.Mathlib.Nat.{add_assoc, add-zero}
-use mathlib.Core.List.{List, [], ◌∷◌, ◌++◌}
+use Rattle.std.proofs.Common.{◌≡◌, refl, ◌∙◌, ℕ, ◌+◌, ◌≤◌, arith, add_assoc, add-zero, List, [], ◌∷◌, ◌++◌}
 use Rattle.rules.specs.Basics.{Run}
 use Rattle.rules.specs.Groups.{TextUnit, count, counts, advance}
 use Rattle.rules.specs.Gaps.{Gap, least}

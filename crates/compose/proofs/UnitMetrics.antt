@@ -1,16 +1,11 @@
 -- The metrics of a unit: its records' offsets one after the other, and the words of each. Assumes nothing.
-use mathlib.Core.Path.{◌≡◌, refl, ap, sym, ◌∙◌}
-use Prim.Native.Nat.{ℕ, ◌+◌, ◌*◌, ◌≤◌, ◌<◌, suc, ◌-◌}
-use native.Mathlib.Omega.{arith}
-use native.Mathlib.Nat.{add-zero, sub-zero}
-use mathlib.Core.List.{List, [], ◌∷◌, ◌++◌}
-use lib.ListN.{take}
-use lib.Seq.{take_at}
+use Rattle.std.proofs.Common.{◌≡◌, refl, ap, sym, ◌∙◌, ℕ, ◌+◌, ◌*◌, ◌≤◌, ◌<◌, suc, ◌-◌, arith, add-zero, Bool, List}
+use Rattle.std.proofs.Common.{[], ◌∷◌, ◌++◌, take, take_at}
+use Rattle.std.proofs.Math.Nat.{sub-zero}
 use Rattle.rules.specs.Limits.{largest_advance}
 use Rattle.rules.specs.Groups.{TextUnit, advance, offsets, base_offsets, same_group, units, count, base_total}
 use Rattle.rules.specs.Groups.{base_offset}
-use Rattle.rules.specs.Gaps.{no_gaps}
-use Rattle.rules.specs.Packed.{unpacked}
+use Rattle.rules.specs.Gaps.{Gap, no_gaps}
 use Rattle.rules.specs.Basics.{whole, joined}
 use Rattle.rules.specs.Records.{rec_at, records}
 use Rattle.rules.proofs.Decisions.{nil_cons}
@@ -18,7 +13,7 @@ use Rattle.rules.proofs.GapWords.{GapBounds}
 use Rattle.rules.proofs.Cuts.{cut_joined}
 use Rattle.rules.proofs.RecordWords.{take_records}
 use Rattle.compose.specs.Limits.{largest_offset}
-use Rattle.compose.specs.Metrics.{Metrics, inner, outer, unit_metrics, metrics_of, bit, MetricsAre}
+use Rattle.compose.specs.Metrics.{RecordMetrics, inner, outer, unit_metrics, metrics_of, bit, MetricsAre}
 use Rattle.compose.specs.Paragraph.{record_count, units_from, unit_at, next_at}
 use Rattle.compose.proofs.UnitsFrom.{unit_step}
 
@@ -66,8 +61,7 @@ offsets_end ws a k solid h = let e : count (unit_at ws a) - k ≡ 0 = omega arit
 
 -- words ------------------------------------------------------------------------------------------------------------
 
-pub inner_is : {o : ℕ} → o ≤ largest_offset → MetricsAre (inner o) 1 0 o
-unfolding unpacked
+pub inner_is : {o : ℕ} → o ≤ largest_offset → MetricsAre (inner o) 1 no_gaps o
 inner_is h =
     record {
       advance = refl;
@@ -79,13 +73,13 @@ inner_is h =
       offset_limit = h;
     }
 
-pub outer_is : (u : TextUnit) (us : List TextUnit) {w t o : ℕ} → unpacked w ≡ (outer u us 0).gap →
-    t ≡ bit (outer u us 0).forbidden → advance u ≤ largest_advance → GapBounds (outer u us 0).gap → o ≤ largest_offset →
-    MetricsAre (outer u us o) (2 * advance u + t) w o
+pub outer_is : (u : TextUnit) (us : List TextUnit) {w : Gap} {o : ℕ} {t : Bool} → w ≡ (outer u us 0).gap →
+    t ≡ (outer u us 0).forbidden → advance u ≤ largest_advance → GapBounds (outer u us 0).gap → o ≤ largest_offset →
+    MetricsAre (outer u us o) (2 * advance u + bit t) w o
 outer_is u us {o = o} p q a b l =
     let e = outer_by u us o in
     rw e (record {
-      advance = ap (λ x. 2 * advance u + x) q;
+      advance = ap (λ t. 2 * advance u + bit t) q;
       gap = p;
       offset = refl;
       advance_limit = a;
@@ -101,7 +95,7 @@ outer_is u us {o = o} p q a b l =
     outer_by u (v ∷ us) o = refl
 
 -- a unit has metrics
-some_metrics : (u : TextUnit) (us : List TextUnit) (o : ℕ) (ps : List ℕ) (qs : List Metrics) →
+some_metrics : (u : TextUnit) (us : List TextUnit) (o : ℕ) (ps : List ℕ) (qs : List RecordMetrics) →
     unit_metrics u us (o ∷ ps) ++ qs ≡ [] → ⊥
 unfolding unit_metrics
 some_metrics u us o [] qs e = nil_cons (sym e)

@@ -1,18 +1,12 @@
 -- A paragraph's units and runs, one after the other, as the loops meet them. Assumes nothing.
-use mathlib.Core.Path.{◌≡◌, refl, ap, sym, ◌∙◌}
-use Prim.Native.Nat.{ℕ, suc, ◌+◌, ◌-◌, ◌≤◌, ◌<◌}
-use native.Mathlib.Omega.{arith}
-use native.Mathlib.Nat.{zero-add, add-zero}
-use mathlib.Core.Bool.{Bool, cond}
-use mathlib.Core.List.{List, [], ◌∷◌, ◌++◌}
-use mathlib.Core.Logic.{inl, inr}
-use lib.ListN.{length, drop, length-append}
-use lib.Seq.{drop_at}
+use Rattle.std.proofs.Common.{◌≡◌, refl, ap, sym, ◌∙◌, ℕ, suc, ◌+◌, ◌-◌, ◌≤◌, ◌<◌, arith, zero-add, add-zero, Bool}
+use Rattle.std.proofs.Common.{cond, List, [], ◌∷◌, ◌++◌, inl, inr, length, drop, length-append, drop_at}
 use Rattle.rules.specs.Basics.{Run, alone, whole, extended, joined, link, cut}
 use Rattle.rules.specs.Records.{rec_at, records}
 use Rattle.rules.specs.Groups.{TextUnit, same_group, units, count, counts}
 use Rattle.rules.specs.Breaks.{forbidden_between, runs}
-use Rattle.rules.proofs.Decisions.{tested, ordered, nil_cons}
+use Rattle.std.proofs.lemmas.Bool.{cases_Bool, cases_lt}
+use Rattle.rules.proofs.Decisions.{nil_cons}
 use Rattle.rules.proofs.RecordWords.{length_records, drop_records}
 use Rattle.rules.proofs.Cuts.{cut_joined, cut_first, cut_tail}
 use Rattle.compose.specs.Paragraph.{record_count, paragraph, units_from, head_or, unit_at, next_at}
@@ -82,7 +76,7 @@ unit_step ws i h =
 
 link_head : {A : Type 0} (t : A → A → Bool) (a : A) (d l : Run A) (ls : List (Run A)) →
     head_or d (link t a (l ∷ ls)) ≡ cond (t a l.first) (extended (alone a) l) (alone a)
-link_head t a d l ls = elim (tested (t a l.first)) [ inl e ↦ rw e | inr e ↦ rw e ]
+link_head t a d l ls = elim (cases_Bool (t a l.first)) [ inl e ↦ rw e | inr e ↦ rw e ]
 
 -- a unit from record i on, by the one from the next record on
 pub unit_last : (ws : List ℕ) (i : ℕ) → i + 1 ≡ record_count ws → unit_at ws i ≡ alone (rec_at ws i)
@@ -104,7 +98,7 @@ pub from_after : (ws : List ℕ) (i : ℕ) (us vs : List TextUnit) → i ≤ rec
 unfolding counts
 from_after ws i [] vs h e = (rw add-zero e, omega arith)
 from_after ws i (u ∷ us) vs h e =
-    elim (ordered i (record_count ws)) [
+    elim (cases_lt i (record_count ws)) [
       | inl g ↦
           let s = unit_step ws i g in
           let p : u ≡ unit_at ws i = cc in

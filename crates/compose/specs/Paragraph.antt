@@ -6,8 +6,7 @@
 --   checked       a paragraph of at most 256 records, to which answers 8, 12 and 9 do not apply
 --
 -- A unit by a record inside a group is what the rules make of the records from there on. Assumes nothing.
-use Rattle.std.specs.Prelude.{◌≡◌, ℕ, ◌+◌, ◌-◌, ◌/◌, ◌≤◌, List, [], ◌∷◌, length}
-use Rattle.std.proofs.Math.Option.{Option, none, some}
+use Rattle.std.specs.Prelude.{◌≡◌, ℕ, ◌+◌, ◌-◌, ◌/◌, ◌≤◌, List, [], ◌∷◌, length, None}
 use Rattle.rules.specs.Layout.{most_records, record_length}
 use Rattle.rules.specs.Basics.{alone}
 use Rattle.rules.specs.Records.{Rec, rec_at, records, bad_record}
@@ -36,11 +35,6 @@ next_at ws i = i + count (unit_at ws i)
 
 pub record Checked (ws : List ℕ) : Type 0 where
   pub few : record_count ws ≤ most_records
-  pub sound : bad_record 0 (paragraph ws) ≡ none
-  pub listed : not_listed 0 (paragraph ws) ≡ none
-  pub grouped : group_fault (paragraph ws) ≡ none
-
--- a place that answer 8, 12, 9 or 10 names, or n
-abbrev pub place_or : ℕ → Option ℕ → ℕ
-place_or n none = n
-place_or n (some i) = i
+  pub sound : bad_record 0 (paragraph ws) ≡ None
+  pub listed : not_listed 0 (paragraph ws) ≡ None
+  pub grouped : group_fault (paragraph ws) ≡ None

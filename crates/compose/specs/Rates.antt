@@ -8,14 +8,15 @@
 --
 -- A line's gaps add up to c, and those up to one of them to s.
 -- Assumes nothing.
-use Rattle.std.specs.Prelude.{◌≡◌, ℕ, ◌+◌, ◌*◌, ◌-◌, ◌/◌, ◌≤◌, ◌<◌, true, false}
+use Rattle.std.specs.Prelude.{◌≡◌, ℕ, ◌+◌, ◌*◌, ◌-◌, ◌/◌, ◌≤◌, ◌<◌}
 use Rattle.rules.specs.Limits.{largest_measure}
 use Rattle.rules.specs.Gaps.{Gap}
 use Rattle.rules.specs.Adjustment.{Amounts, cumulative_share}
 use Rattle.rules.specs.Packed.{Packs, AtMost}
 use Rattle.compose.specs.Limits.{most_gaps, largest_solid, largest_space, parts}
 use Rattle.compose.specs.declared.adjustment.Stages.{Stages}
-use Rattle.compose.specs.declared.adjustment.Rates.{Rates}
+use Rattle.compose.specs.declared.adjustment.Adjusting.{Adjusting}
+use Rattle.compose.specs.declared.adjustment.Adjusting.TheVariants.{Shrink, Stretch}
 
 abbrev pub amounts_from : Stages → Amounts
 amounts_from e = record { shrink₁ = e.shrink1; shrink₂ = e.shrink2; stretch₁ = e.stretch1; stretch₂ = e.stretch2 }
@@ -40,20 +41,20 @@ pub record RateBounds (e : Amounts) (c : Gap) : Type 0 where
   pub total : AtMost most_gaps c
   pub packs : Packs c
 
--- the rates of a line that shrinks, and of one that does not
-pub record ShrinkRates (r : Rates) (e : Amounts) (c : Gap) : Type 0 where
-  pub first : r.first ≡ rate_of e.shrink₁ c.shrink₁
-  pub second : r.second ≡ rate_of e.shrink₂ c.shrink₂
+-- the rates of the two stages of a line that shrinks, and of one that does not
+pub record ShrinkRates (first second : ℕ) (e : Amounts) (c : Gap) : Type 0 where
+  pub first_is : first ≡ rate_of e.shrink₁ c.shrink₁
+  pub second_is : second ≡ rate_of e.shrink₂ c.shrink₂
   pub unstretched : e.stretch₁ + e.stretch₂ ≡ 0
 
-pub record StretchRates (r : Rates) (e : Amounts) (c : Gap) : Type 0 where
-  pub first : r.first ≡ rate_of e.stretch₁ c.stretch₁
-  pub second : r.second ≡ rate_of e.stretch₂ c.stretch₂
+pub record StretchRates (first second : ℕ) (e : Amounts) (c : Gap) : Type 0 where
+  pub first_is : first ≡ rate_of e.stretch₁ c.stretch₁
+  pub second_is : second ≡ rate_of e.stretch₂ c.stretch₂
   pub unshrunk : e.shrink₁ + e.shrink₂ ≡ 0
 
-pub record RatesOf (r : Rates) (e : Amounts) (c : Gap) : Type 0 where
-  pub shrinking : r.shrinks ≡ true → ShrinkRates r e c
-  pub stretching : r.shrinks ≡ false → StretchRates r e c
+pub record RatesOf (r : Adjusting) (e : Amounts) (c : Gap) : Type 0 where
+  pub shrinking : (first second : ℕ) → r ≡ Shrink first second → ShrinkRates first second e c
+  pub stretching : (first second : ℕ) → r ≡ Stretch first second → StretchRates first second e c
 
 -- what the gaps that add up to s take of amounts e over totals c
 abbrev pub cumulative_shares : Amounts → Gap → Gap → Amounts
@@ -72,11 +73,9 @@ place_by e c solid s =
     let f = cumulative_shares e c s in
     solid + (s.space - f.shrink₁ - f.shrink₂) + f.stretch₁ + f.stretch₂
 
--- a place that can be told from the rates: after units that end at `solid` and gaps that add up to s, of those that
--- add up to c
-pub record Placeable (r : Rates) (e : Amounts) (c : Gap) (solid : ℕ) (s : Gap) : Type 0 where
-  pub bounds : RateBounds e c
-  pub rates : RatesOf r e c
+-- a place that can be told from a line's rates: after units that end at `solid` and gaps that add up to s, of those
+-- that add up to c
+pub record Placeable (c : Gap) (solid : ℕ) (s : Gap) : Type 0 where
   pub part : PartOf s c
   pub packs : Packs s
   pub solid_limit : solid ≤ largest_solid

@@ -1,109 +1,106 @@
-// Answers 8, 12 and 9, for any words at all. A paragraph is its record words, six to a record.
-ghost use Rattle.std.specs.Prelude.{◌≡◌, true, false, ◌<◌};
-ghost use Rattle.rules.specs.Records.{rec_at, bad_record};
-ghost use Rattle.rules.specs.Listed.{not_listed};
+// Answers 8, 12 and 9, for any records at all.
+ghost use Rattle.std.specs.Prelude.{◌≡◌, ◌↔◌, IsTrue, Bool};
+ghost use Rattle.rules.specs.Basics.{first_failing};
+ghost use Rattle.rules.specs.Records.{Rec, rec_ok};
+ghost use Rattle.rules.specs.Listed.{is_listed};
 ghost use Rattle.rules.specs.Groups.{joins, group_fault};
 ghost use Rattle.rules.specs.Structs.{record_of};
-ghost use Rattle.rules.specs.Tables.{class_table};
-ghost use Rattle.compose.specs.Paragraph.{record_count, paragraph, place_or};
-ghost use Rattle.compose.specs.Scan.{Fine};
+ghost use Rattle.compose.specs.Paragraph.{paragraph as records_of};
+ghost use Rattle.compose.specs.Scan.{Fine, alike};
 
+use crate::paragraph::Paragraph;
 use lists::in_list;
-use rules::layout::{ADVANCE, CLASS, GROUP, RECORD_WORDS, RUBY_COUNT, SIZE};
 use rules::limits::MOST_GROUPED;
-use rules::{Record, class_table, record_ok};
+use rules::{Record, record_ok};
 
-// Record `i` of a paragraph.
-pub(crate) fn record_at(ws: &[u32], i: usize) -> Record
-    requires { i < record_count ws.now }
-    ensures { record_of result ≡ rec_at ws.now i }
+// Whether answers 8 and 12 do not apply to a record.
+#[inline(always)]
+pub(crate) fn is_fine(r: Record) -> bool
+    ensures { IsTrue result ↔ Fine (record_of r) }
 {
-    let a = RECORD_WORDS * i;
-    Record {
-        code: ws[a],
-        class: ws[a + CLASS],
-        size: ws[a + SIZE],
-        advance: ws[a + ADVANCE],
-        group: ws[a + GROUP],
-        ruby: ws[a + RUBY_COUNT],
+    record_ok(r) && in_list(r.class, r.code)
+}
+
+// A test of a record by itself. A trait and no closure: its ghost member is the test that `first_failing` takes.
+pub(crate) trait Test {
+    ghost passes: { Self → Rec → Bool };
+
+    fn holds(&self, r: Record) -> bool
+        ensures { result ≡ passes self.now (record_of r) };
+}
+
+// A record keeps its own rules.
+#[derive(Clone, Copy, Debug, PartialEq, Eq)]
+pub(crate) struct OwnRules;
+
+impl Test for OwnRules {
+    ghost passes = { λ _ r. rec_ok r };
+
+    fn holds(&self, r: Record) -> bool {
+        record_ok(r)
     }
 }
 
-// Whether answers 8 and 12 do not apply to a record. `classes` is the class table.
-pub(crate) fn is_fine(r: Record, classes: &[u8; 28]) -> bool
-    requires { classes.now ≡ class_table }
-    ensures { (result ≡ true → Fine (record_of r)) × (result ≡ false → Fine (record_of r) → ⊥) }
-{
-    if !record_ok(r, classes) {
-        return false;
+// Its class's list has its code point.
+#[derive(Clone, Copy, Debug, PartialEq, Eq)]
+pub(crate) struct Listed;
+
+impl Test for Listed {
+    ghost passes = { λ _ r. is_listed r };
+
+    #[tactic(auto, unfolding(rules::specs::Listed::is_listed))]
+    fn holds(&self, r: Record) -> bool {
+        in_list(r.class, r.code)
     }
-    in_list(r.class, r.code)
 }
 
-// The first record that breaks its own rules, or how many there are.
-pub(crate) fn first_bad_record(ws: &[u32]) -> usize
-    ensures { result ≡ place_or (record_count ws.now) (bad_record 0 (paragraph ws.now)) }
+// The first record that fails a test.
+pub(crate) fn first_failing_record<T: Test>(paragraph: Paragraph<'_>, test: &T) -> Option<usize>
+    ensures { result ≡ first_failing (T.passes test.now) 0 (records_of paragraph.entry.words.now) }
 {
-    let n = ws.len() / RECORD_WORDS;
-    // laid down once for all records
-    let classes = class_table();
-    let mut i = 0;
-    while i < n {
-        if !record_ok(record_at(ws, i), &classes) {
-            return i;
+    for i in 0..paragraph.len() {
+        if !test.holds(paragraph.record_at(i)) {
+            return Some(i);
         }
-        i += 1;
     }
-    n
+    None
 }
 
-// The first record whose class's list lacks its code point, or how many there are.
-pub(crate) fn first_not_listed(ws: &[u32]) -> usize
-    ensures { result ≡ place_or (record_count ws.now) (not_listed 0 (paragraph ws.now)) }
-{
-    let n = ws.len() / RECORD_WORDS;
-    let mut i = 0;
-    while i < n {
-        let r = record_at(ws, i);
-        if !in_list(r.class, r.code) {
-            return i;
-        }
-        i += 1;
-    }
-    n
-}
-
-// Neighbouring records of groups `g` and `h` are of one group.
+// Neighbouring records of groups `g` and `h` are of one group. A record of none has the word 0, as `joins` reads it.
 pub(crate) fn same_group(g: u32, h: u32) -> bool
     ensures { result ≡ joins g h }
 {
-    (h != 0) & (g == h)
+    h != 0 && g == h
 }
 
-// The first record that breaks a group's rule, or how many there are.
-pub(crate) fn first_group_fault(ws: &[u32]) -> usize
-    ensures { result ≡ place_or (record_count ws.now) (group_fault (paragraph ws.now)) }
+// Records of a group agree in size and ruby count.
+pub(crate) fn alike(p: Record, r: Record) -> bool
+    ensures { result ≡ alike (record_of p) (record_of r) }
 {
-    let n = ws.len() / RECORD_WORDS;
-    let mut i = 1;
+    p.size == r.size && p.ruby == r.ruby
+}
+
+// The first record that breaks a group's rule.
+pub(crate) fn first_group_fault(paragraph: Paragraph<'_>) -> Option<usize>
+    ensures { result ≡ group_fault (records_of paragraph.entry.words.now) }
+{
     // how many records of its group stand up to the one before `i`
-    let mut count: u32 = 1;
-    while i < n {
-        let p = record_at(ws, i - 1);
-        let r = record_at(ws, i);
+    let mut count = 1;
+    for i in 1..paragraph.len() {
+        let p = paragraph.record_at(i - 1);
+        let r = paragraph.record_at(i);
         if same_group(p.group, r.group) {
-            if !((p.size == r.size) & (p.ruby == r.ruby)) {
-                return i;
+            if !alike(p, r) {
+                return Some(i);
             }
-            if count < MOST_GROUPED as u32 {
+            if count < MOST_GROUPED {
                 count += 1;
             } else {
-                return i;
+                return Some(i);
             }
         } else {
             count = 1;
         }
-        i += 1;
     }
-    n
+    None
 }

@@ -4,6 +4,7 @@
 mod adjustment;
 mod breaking;
 mod checks;
+mod composing;
 mod kept;
 mod metrics;
 mod paragraph;
@@ -11,5 +12,9 @@ mod places;
 mod scan;
 mod units;
 
+pub use composing::{check, compose};
 pub use kept::keep_metrics;
-pub use paragraph::{check, compose};
+pub use metrics::Metrics;
+pub use paragraph::Paragraph;
+pub use places::Composition;
+pub use scan::Judged;

@@ -1,145 +1,113 @@
 // The words of each line and of the places of its records.
-ghost use Rattle.std.specs.Prelude.{◌≡◌, [], ◌∷◌, ◌+◌, ◌*◌, ◌-◌, ◌≤◌, length};
+ghost use Rattle.std.specs.Prelude.{◌≡◌, ◌*◌, ◌-◌, ◌<◌, IfOk, IfErr};
 ghost use Rattle.std.proofs.Math.Seq.{paste};
-ghost use Rattle.rules.specs.Layout.{place_length, line_length};
-ghost use Rattle.rules.specs.Structs.{gap_from};
-ghost use Rattle.compose.specs.Rates.{amounts_from};
-ghost use Rattle.compose.specs.Places.{LineToPlace, line_places, LineToCompose, LineComposed};
-ghost use Rattle.compose.specs.Places.{ToCompose, ComposedTo};
+ghost use Rattle.rules.specs.Layout.{place_length, places_length, lines_length};
+ghost use Rattle.rules.specs.Basics.{zeros};
+ghost use Rattle.compose.specs.LineFrom.{IsTooWide};
+ghost use Rattle.compose.specs.Places.{LineToPlace, line_places, LineToCompose, LineComposed, ComposedTo};
 
-use crate::adjustment::{Rates, Stages, line_amounts, line_kind, line_rates, place_at};
-use crate::breaking::{LineSums, Stop, longest_line};
-use rules::layout::{LINE_WORDS, MOST_RECORDS, PLACE_WORDS, RECORD_WORDS};
-use rules::{Gap, added, unpack};
+use crate::adjustment::Adjustment;
+use crate::breaking::{LineStart, LineSums, Scanned};
+use rules::layout::{LINE_WORDS, LINES_WORDS, MOST_RECORDS, PLACE_WORDS, PLACES_WORDS};
+use rules::{Measure, PackedGap, Refusal, put};
 
-// Writes the place of record `k`.
-fn put_place(k: usize, x: u32, line: u32, places: &mut [u32])
-    requires { place_length * k + place_length ≤ length places.old }
-    ensures { places.new ≡
-        paste places.old (place_length * k) (x ∷ line ∷ []) place_length }
-{
-    let at = PLACE_WORDS * k;
-    places[at] = x;
-    places[at + 1] = line;
+/// The words that a composed paragraph leaves: of its records' places, and of its lines.
+#[derive(Drop)]
+pub struct Composition {
+    pub places: [u32; PLACES_WORDS],
+    pub lines: [u32; LINES_WORDS],
 }
 
-// Writes the places of the line of the records from `i` up to `j`, which starts at `x`.
-fn place_line(
-    ws: &[u32],
-    advances: &[u32; MOST_RECORDS],
-    gaps: &[u64; MOST_RECORDS],
-    offsets: &[u32; MOST_RECORDS],
-    i: usize,
-    j: usize,
-    line: u32,
-    x: u32,
-    rates: Rates,
-    e: Stages,
-    c: Gap,
-    places: &mut [u32],
-)
-    requires { LineToPlace ws.now advances.now gaps.now offsets.now i j x rates
-        (amounts_from e) (gap_from c) places.old }
-    ensures { places.new ≡ paste places.old (place_length * i)
-        (line_places ws.now i j line x (amounts_from e) (gap_from c)) (place_length * (j - i)) }
-{
-    // where the units before would end if they stood solid, and what the gaps up to here add up to
-    let mut solid = x;
-    let mut sums: u64 = 0;
-    let mut k = i;
-    while k < j {
-        let at = place_at(rates, e, c, solid, sums);
-        put_place(k, at + offsets[k], line, places);
-        solid += advances[k] / 2;
-        sums = added(sums, gaps[k]);
-        k += 1;
-    }
-}
-
-// Writes the words of line `k`.
-fn put_line(k: usize, first: u32, end: u32, kind: u32, lines: &mut [u32])
-    requires { line_length * k + line_length ≤ length lines.old }
-    ensures { lines.new ≡
-        paste lines.old (line_length * k) (first ∷ end ∷ kind ∷ []) line_length }
-{
-    let at = LINE_WORDS * k;
-    lines[at] = first;
-    lines[at + 1] = end;
-    lines[at + 2] = kind;
-}
-
-// Composes line `k`, which starts with record `i`: its places, and first record, end x and kind.
-fn compose_line(
-    ws: &[u32],
-    advances: &[u32; MOST_RECORDS],
-    gaps: &[u64; MOST_RECORDS],
-    offsets: &[u32; MOST_RECORDS],
-    i: usize,
-    k: usize,
-    m: u32,
-    x: u32,
-    last: bool,
-    line: LineSums,
-    places: &mut [u32],
-    lines: &mut [u32],
-)
-    requires { LineToCompose ws.now advances.now gaps.now offsets.now i k m x
-        line places.old lines.old }
-    ensures { LineComposed ws.now i line.end k
-        m x last places.old lines.old places.new lines.new }
-{
-    let c = unpack(line.gaps);
-    let e = line_amounts(m, line.solid + c.space, last, c);
-    let rates = line_rates(e, c);
-    place_line(
-        ws, advances, gaps, offsets, i, line.end, k as u32, x, rates, e, c, places,
-    );
-    let end = place_at(rates, e, c, line.solid, line.gaps);
-    put_line(k, i as u32, end, line_kind(last, e, c), lines);
-}
-
-// Breaks a paragraph into lines and composes them: writes the places of its records and the words of its lines. Line 0
-// starts at `x`.
-pub(crate) fn compose_lines(
-    ws: &[u32],
-    advances: &[u32; MOST_RECORDS],
-    gaps: &[u64; MOST_RECORDS],
-    offsets: &[u32; MOST_RECORDS],
-    m: u32,
-    x: u32,
-    places: &mut [u32],
-    lines: &mut [u32],
-) -> Stop
-    requires { ToCompose ws.now advances.now gaps.now offsets.now m x places.old lines.old }
-    ensures { ComposedTo ws.now m x places.old lines.old places.new
-        lines.new result }
-{
-    let n = ws.len() / RECORD_WORDS;
-    let mut k: usize = 0;
-    let mut i: usize = 0;
-    let mut start = x;
-    while i < n {
-        let line = longest_line(ws, advances, gaps, offsets, i, m, start);
-        if line.end == i {
-            return Stop { lines: k, place: i };
+impl Composition {
+    /// Room for 256 records and 256 lines, all zeros.
+    #[tactic(auto, unfolding(rules::specs::Basics::zeros))]
+    pub fn new() -> Composition
+        ensures places { result.places ≡ zeros places_length }
+        ensures lines { result.lines ≡ zeros lines_length }
+    {
+        Composition {
+            places: [0; PLACES_WORDS],
+            lines: [0; LINES_WORDS],
         }
-        compose_line(
-            ws,
-            advances,
-            gaps,
-            offsets,
-            i,
-            k,
-            m,
-            start,
-            line.end == n,
-            line,
-            places,
-            lines,
-        );
-        i = line.end;
-        start = 0;
-        k += 1;
     }
-    Stop { lines: k, place: n }
+}
+
+impl Scanned<'_> {
+    // Writes the places of the records from the start of a line up to `end`.
+    fn place_line(self, start: LineStart, end: usize, adjustment: Adjustment, places: &mut [u32])
+        requires line { LineToPlace self.paragraph.words.now self.metrics.now start.first end start.x adjustment
+            places.old }
+        requires few { start.number < MOST_RECORDS }
+        ensures { places.new ≡ paste places.old (place_length * start.first)
+            (line_places self.entry.paragraph.words.now start.first end start.number start.x adjustment)
+            (place_length * (end - start.first)) }
+    {
+        let metrics = self.metrics;
+        // where the units before would end if they stood solid, and what the gaps up to here add up to
+        let mut solid = start.x;
+        let mut sums = PackedGap::NONE;
+        for k in start.first..end {
+            let at = adjustment.place_at(solid, sums);
+            put(
+                places,
+                PLACE_WORDS * k,
+                [at + metrics.offsets[k], start.number as u32],
+            );
+            solid += metrics.advances[k] / 2;
+            sums = sums.plus(metrics.gaps[k]);
+        }
+    }
+
+    // Composes a line: its places, and first record, end x and kind.
+    fn compose_line(
+        self,
+        start: LineStart,
+        line: LineSums,
+        measure: u32,
+        composition: &mut Composition,
+    )
+        requires { LineToCompose self.paragraph.words.now self.metrics.now start.first start.number measure start.x line
+            composition.old.places composition.old.lines }
+        ensures { LineComposed self.entry.paragraph.words.now start.first line.end start.number measure start.x
+            composition.old.places composition.old.lines
+            composition.new.places composition.new.lines }
+    {
+        let last = line.end == self.paragraph.len();
+        let adjustment = Adjustment::new(measure, line.solid, line.gaps.unpack(), last);
+        self.place_line(start, line.end, adjustment, &mut composition.places);
+        let end = adjustment.place_at(line.solid, line.gaps);
+        put(
+            &mut composition.lines,
+            LINE_WORDS * start.number,
+            [start.first as u32, end, adjustment.kind.number()],
+        );
+    }
+
+    // Breaks a paragraph into lines and composes them: writes the places of its records and the words of its lines,
+    // and says how many lines it has.
+    pub fn compose_lines(
+        self,
+        measure: Measure,
+        composition: &mut Composition,
+    ) -> Result<usize, Refusal>
+        ensures too_wide { IfErr result (λ e. IsTooWide self.entry.paragraph.words.now measure e) }
+        ensures composed { IfOk result (λ count. ComposedTo self.entry.paragraph.words.now
+            measure.measure measure.indent composition.old.places composition.old.lines
+            composition.new.places composition.new.lines count) }
+    {
+        let n = self.paragraph.len();
+        let mut start = LineStart::of_paragraph(measure);
+        // no `for`: a step is as long as the line that it finds
+        while start.first < n {
+            let Some(line) = self.longest_line(start, measure.measure) else {
+                return Err(Refusal::TooWide {
+                    at: start.first as u32,
+                });
+            };
+            let end = line.end;
+            self.compose_line(start, line, measure.measure, composition);
+            start = start.next(end);
+        }
+        Ok(start.number)
+    }
 }

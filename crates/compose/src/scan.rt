@@ -1,225 +1,110 @@
 // The scan that fills the metrics of a paragraph's records from its end, and asks answers 8, 12 and 9 on its way.
-ghost use Rattle.std.specs.Prelude.{◌<◌};
-ghost use Rattle.rules.specs.Tables.{Laid};
-ghost use Rattle.compose.specs.Scan.{ClassIndexFrom, FilledFrom, FilledIn, Filled, UnitFilled, Scanned};
+ghost use Rattle.std.specs.Prelude.{◌≡◌, ◌+◌, ◌<◌, ◌≤◌, true, false, IfOk, OnOk, OnErr};
+ghost use Rattle.rules.specs.Records.{rec_at};
+ghost use Rattle.rules.specs.Structs.{record_of};
+ghost use Rattle.compose.specs.Paragraph.{record_count, Checked};
+ghost use Rattle.compose.specs.Scan.{KnownFine};
 
-use crate::checks::record_at;
-use crate::metrics::{put_metrics, put_unit};
-use crate::units::{class_index_at, joint_after, side_at, unit_before};
+use crate::metrics::{Metrics, put_unit};
+use crate::paragraph::Paragraph;
+use crate::units::Faulty;
 use lists::in_list;
-use rules::layout::MOST_RECORDS;
-use rules::{Entry, class_index, class_table, entry_words, plain_ok, spacing_table};
+use rules::{Record, plain_ok};
 
-// Units whose metrics are filled: the first record of the first of them, and its class index.
-#[derive(Clone, Copy)]
-pub(crate) struct UnitDone {
-    pub first: usize,
-    pub index: usize,
+/// What is known of a paragraph before it is judged.
+#[derive(Clone, Copy, Debug, PartialEq, Eq)]
+pub struct Judged {
+    /// The records before this one keep their own rules and are listed.
+    pub known: usize,
+    /// The metrics before the unit that this record is in are filled.
+    pub stop: usize,
+    /// The metrics from this record on are filled.
+    pub kept: usize,
 }
 
-// Fills the metrics of the record before record `i`, where it is of no group and answers 8 and 12 do not apply to it;
-// otherwise it gives `i`. `index` is the class index of the unit that starts with record `i`, if there is one. Most
-// records come this way: no group, so no ruby and no offset.
-fn fill_lone(
-    ws: &[u32],
-    known: usize,
-    i: usize,
-    index: usize,
-    classes: &[u8; 28],
-    spacing: &[[Entry; 18]; 18],
-    words: &[[u64; 2]; 10],
-    advances: &mut [u32],
-    gaps: &mut [u64],
-    offsets: &mut [u32],
-) -> UnitDone
-    requires filled_in { FilledIn ws.now known i advances.old gaps.old offsets.old × (0 < i) }
-    requires class_index_from { ClassIndexFrom ws.now i index × Laid classes.now spacing.now words.now }
-    ensures { Filled ws.now known i advances.old gaps.old
-        offsets.old advances.new gaps.new offsets.new
-        result.first result.index }
-{
-    let none = UnitDone {
-        first: i,
-        index: index,
-    };
-    let last = i - 1;
-    let r = record_at(ws, last);
-    if r.group != 0 {
-        return none;
+// A scan of a paragraph, of whose records those before `known` are known to keep their own rules and to be listed. That
+// metrics are filled stays in the contracts: they are filled under the scan, so it is no invariant of one value.
+#[derive(Clone, Copy, Debug)]
+pub(crate) struct Scan<'a> {
+    pub paragraph: Paragraph<'a>,
+    pub known: usize,
+    pub ghost fine: { KnownFine paragraph.words.now known },
+}
+
+impl Scan<'_> {
+    ghost use Rattle.compose.specs.Scan.{Lone, FilledFrom, Filled, Reached};
+
+    // Whether record `i`, which is `r`, is of no group, and answers 8 and 12 do not apply to it.
+    fn is_lone(self, i: usize, r: Record) -> bool
+        requires within { i < record_count self.paragraph.words.now }
+        requires here { record_of r ≡ rec_at self.paragraph.words.now i }
+        ensures { result ≡ true → Lone (record_of r) }
+    {
+        r.group == 0 && (i < self.known || in_list(r.class, r.code) && plain_ok(r))
     }
-    if known < i {
-        if !in_list(r.class, r.code) {
-            return none;
+
+    // Fills the metrics of record `i`, from the next one on filled already, where `is_lone` takes it, and says whether
+    // it does. Most records come this way: no group, so no ruby and no offset.
+    fn fill_lone(self, i: usize, metrics: &mut Metrics) -> bool
+        requires { FilledFrom self.paragraph.words.now self.known (i + 1) metrics.old }
+        ensures filled { result ≡ true →
+            Filled self.entry.paragraph.words.now self.entry.known (i + 1) metrics.old metrics.new i }
+        ensures untouched { result ≡ false → metrics.new ≡ metrics.old }
+    {
+        let r = self.paragraph.record_at(i);
+        if !self.is_lone(i, r) {
+            return false;
         }
-        if !plain_ok(r, classes) {
-            return none;
-        }
+        let joint = self.paragraph.joint_after(i, i + 1);
+        metrics.put(i, r.advance, joint, 0);
+        true
     }
-    let left = class_index(r.class, classes);
-    let joint = joint_after(ws, last, i, left, index, spacing, words);
-    put_metrics(
-        last,
-        2 * r.advance + joint.forbidden,
-        joint.gap,
-        0,
-        advances,
-        gaps,
-        offsets,
-    );
-    UnitDone {
-        first: last,
-        index: left,
-    }
-}
 
-// Fills metrics before record `end` as far as records come that `fill_lone` takes, down to record `stop`. `next` is
-// the class index of the unit that starts with record `end`. A loop of its own, so that what groups need is kept out of
-// it.
-fn fill_lones(
-    ws: &[u32],
-    known: usize,
-    stop: usize,
-    end: usize,
-    next: usize,
-    classes: &[u8; 28],
-    spacing: &[[Entry; 18]; 18],
-    words: &[[u64; 2]; 10],
-    advances: &mut [u32],
-    gaps: &mut [u64],
-    offsets: &mut [u32],
-) -> UnitDone
-    requires filled_in { FilledIn ws.now known end advances.old gaps.old offsets.old }
-    requires class_index_from { ClassIndexFrom ws.now end next × Laid classes.now spacing.now words.now }
-    ensures { Filled ws.now known end advances.old gaps.old
-        offsets.old advances.new gaps.new offsets.new
-        result.first result.index }
-{
-    let mut i = end;
-    let mut index = next;
-    while stop < i {
-        let unit = fill_lone(
-            ws, known, i, index, classes, spacing, words, advances, gaps, offsets,
-        );
-        if unit.first == i {
-            return unit;
-        }
-        i = unit.first;
-        index = unit.index;
-    }
-    UnitDone {
-        first: i,
-        index: index,
-    }
-}
-
-// Fills the metrics of the unit that ends before record `i`, and gives its first record and its class index; or gives
-// `i`, where answer 8, 12 or 9 applies to one of its records.
-fn fill_unit(
-    ws: &[u32],
-    known: usize,
-    i: usize,
-    index: usize,
-    classes: &[u8; 28],
-    spacing: &[[Entry; 18]; 18],
-    words: &[[u64; 2]; 10],
-    advances: &mut [u32],
-    gaps: &mut [u64],
-    offsets: &mut [u32],
-) -> UnitDone
-    requires filled_in { FilledIn ws.now known i advances.old gaps.old offsets.old × (0 < i) }
-    requires class_index_from { ClassIndexFrom ws.now i index × Laid classes.now spacing.now words.now }
-    ensures { UnitFilled ws.now known i advances.old gaps.old
-        offsets.old advances.new gaps.new offsets.new
-        result.first result.index }
-{
-    let unit = unit_before(ws, known, i, classes);
-    if unit.first == i {
-        return UnitDone {
-            first: i,
-            index: index,
-        };
-    }
-    let side = side_at(ws, unit.first);
-    let left = class_index(side.class, classes);
-    let joint = joint_after(ws, unit.first, i, left, index, spacing, words);
-    put_unit(
-        ws,
-        unit.first,
-        i,
-        unit.base,
-        joint.gap,
-        joint.forbidden,
-        advances,
-        gaps,
-        offsets,
-    );
-    UnitDone {
-        first: unit.first,
-        index: left,
-    }
-}
-
-// Fills the metrics before record `end`, from there on filled already, down to the unit that record `stop` is in, and
-// says whether answers 8, 12 and 9 apply to none of their records. Records before `known` are known to keep their own
-// rules and to be listed.
-pub(crate) fn fill_metrics(
-    ws: &[u32],
-    known: usize,
-    stop: usize,
-    end: usize,
-    advances: &mut [u32; MOST_RECORDS],
-    gaps: &mut [u64; MOST_RECORDS],
-    offsets: &mut [u32; MOST_RECORDS],
-) -> bool
-    requires { FilledFrom ws.now known end advances.old gaps.old offsets.old }
-    ensures { Scanned ws.now known stop advances.old gaps.old
-        offsets.old advances.new gaps.new offsets.new result }
-{
-    // laid down once for all records
-    let classes = class_table();
-    let spacing = spacing_table();
-    let words = entry_words();
-    // lent as slices, so that the proof knows their lengths
-    let all_advances = &mut advances[..];
-    let all_gaps = &mut gaps[..];
-    let all_offsets = &mut offsets[..];
-    let mut i = end;
-    let mut index = class_index_at(ws, end, &classes);
-    while stop < i {
-        let lones = fill_lones(
-            ws,
-            known,
-            stop,
-            i,
-            index,
-            &classes,
-            &spacing,
-            &words,
-            all_advances,
-            all_gaps,
-            all_offsets,
-        );
-        i = lones.first;
-        index = lones.index;
-        if stop < i {
-            let unit = fill_unit(
-                ws,
-                known,
-                i,
-                index,
-                &classes,
-                &spacing,
-                &words,
-                all_advances,
-                all_gaps,
-                all_offsets,
-            );
-            if unit.first == i {
-                return false;
+    // Fills metrics before record `end` as far as records come that `fill_lone` takes, down to record `stop`, and gives
+    // the first record whose metrics are filled. A loop of its own, so that what groups need is kept out of it.
+    fn fill_lones(self, stop: usize, end: usize, metrics: &mut Metrics) -> usize
+        requires filled { FilledFrom self.paragraph.words.now self.known end metrics.old }
+        requires order { stop ≤ end }
+        ensures { Filled self.entry.paragraph.words.now self.entry.known end metrics.old metrics.new result }
+    {
+        for i in (stop..end).rev() {
+            if !self.fill_lone(i, metrics) {
+                return i + 1;
             }
-            i = unit.first;
-            index = unit.index;
         }
+        stop
     }
-    true
+
+    // Fills the metrics of the unit that ends before record `i`, and gives its first record.
+    fn fill_unit(self, i: usize, metrics: &mut Metrics) -> Result<usize, Faulty>
+        requires { FilledFrom self.paragraph.words.now self.known i metrics.old × (0 < i) }
+        ensures before { IfOk result (λ first. first < i) }
+        ensures filled { IfOk result (λ first.
+            Filled self.entry.paragraph.words.now self.entry.known i metrics.old metrics.new first) }
+        ensures ill { OnErr result (¬ (Checked self.entry.paragraph.words.now)) }
+    {
+        let unit = self.unit_before(i)?;
+        let joint = self.paragraph.joint_after(unit.first, i);
+        put_unit(self.paragraph, unit, i, joint, metrics);
+        Ok(unit.first)
+    }
+
+    // Fills metrics before record `kept` down to the unit that record `stop` is in, and asks answers 8, 12 and 9 of the
+    // records whose metrics it fills.
+    pub fn fill_metrics(self, stop: usize, kept: usize, metrics: &mut Metrics) -> Result<(), Faulty>
+        requires { FilledFrom self.paragraph.words.now self.known kept metrics.old }
+        ensures reached { OnOk result
+            (Reached self.entry.paragraph.words.now self.entry.known stop metrics.old metrics.new) }
+        ensures ill { OnErr result (¬ (Checked self.entry.paragraph.words.now)) }
+    {
+        let mut i = kept;
+        // no `for`: a step is as long as the units that it finds
+        while stop < i {
+            i = self.fill_lones(stop, i, metrics);
+            if stop < i {
+                i = self.fill_unit(i, metrics)?;
+            }
+        }
+        Ok(())
+    }
 }

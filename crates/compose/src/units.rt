@@ -1,124 +1,68 @@
-// The units of a paragraph, from its end: the one that ends before a record, judged by answers 8, 12 and 9, and what
-// stands after it.
-ghost use Rattle.std.specs.Prelude.{◌≡◌, ◌<◌};
+// The units of a paragraph, from its end: the one that ends before a record, judged by answers 8, 12 and 9.
+ghost use Rattle.std.specs.Prelude.{◌≡◌, ◌<◌, ◌↔◌, IsTrue, IfOk, OnErr};
 ghost use Rattle.rules.specs.Records.{rec_at};
-ghost use Rattle.rules.specs.Sides.{side_by};
-ghost use Rattle.rules.specs.Spacing.{spacing_table};
-ghost use Rattle.rules.specs.Packed.{entry_words};
-ghost use Rattle.rules.specs.Structs.{side_of};
-ghost use Rattle.rules.specs.Tables.{class_table};
-ghost use Rattle.rules.specs.Bounds.{SideOk};
-ghost use Rattle.compose.specs.Paragraph.{record_count};
-ghost use Rattle.compose.specs.Scan.{Scanning, UnitBefore, ClassIndexFrom, JointDue, JointAfter};
+ghost use Rattle.rules.specs.Structs.{record_of};
+ghost use Rattle.compose.specs.Paragraph.{record_count, Checked};
+ghost use Rattle.compose.specs.Scan.{Fine, Scanning, UnitBefore};
 
-use crate::checks::{is_fine, record_at, same_group};
-use lists::classes::IDEOGRAPHIC;
-use rules::layout::RECORD_WORDS;
+use crate::checks::{alike, is_fine, same_group};
+use crate::scan::Scan;
+use rules::Record;
 use rules::limits::MOST_GROUPED;
-use rules::{Entry, Joint, Side, class_index, joint_between};
+
+// A record was met to which answer 8, 12 or 9 applies. Which of them, and where, `first_fault` says.
+#[derive(Clone, Copy, Debug, PartialEq, Eq)]
+pub(crate) struct Faulty;
 
 // A unit by its first record and its base total.
-#[derive(Clone, Copy)]
+#[derive(Clone, Copy, Debug, PartialEq, Eq)]
 pub(crate) struct UnitSums {
     pub first: usize,
     pub base: u32,
 }
 
-// The unit that ends before record `i`; or `i` itself as its first record, where answer 8, 12 or 9 applies to one of
-// its records. Records before `known` are known to keep their own rules and to be listed.
-pub(crate) fn unit_before(ws: &[u32], known: usize, i: usize, classes: &[u8; 28]) -> UnitSums
-    requires { Scanning ws.now known i × (0 < i) × (classes.now ≡ class_table) }
-    ensures { UnitBefore ws.now known i result }
-{
-    let none = UnitSums { first: i, base: 0 };
-    let mut first = i;
-    let mut base: u32 = 0;
-    loop {
-        let r = record_at(ws, first - 1);
-        if known < first {
-            if !is_fine(r, classes) {
-                return none;
+impl Scan<'_> {
+    // Whether answers 8 and 12 do not apply to record `i`, which is `r`. Inlined: for a call the scan lays down each
+    // record that it reads, and an edit of 256 records in groups took 6.6 us in place of 5.8.
+    #[inline(always)]
+    fn passes(self, i: usize, r: Record) -> bool
+        requires within { i < record_count self.paragraph.words.now }
+        requires here { record_of r ≡ rec_at self.paragraph.words.now i }
+        ensures { IsTrue result ↔ Fine (record_of r) }
+    {
+        i < self.known || is_fine(r)
+    }
+
+    // The unit that ends before record `i`.
+    pub fn unit_before(self, i: usize) -> Result<UnitSums, Faulty>
+        requires { Scanning self.paragraph.words.now self.known i × (0 < i) }
+        ensures unit { IfOk result (λ u. UnitBefore self.entry.paragraph.words.now self.entry.known i u) }
+        ensures ill { OnErr result (¬ (Checked self.entry.paragraph.words.now)) }
+    {
+        let mut first = i;
+        let mut base: u32 = 0;
+        // no `for`: the walk always ends inside, at record 0 too, and nothing stands for what would come after
+        loop {
+            first -= 1;
+            let r = self.paragraph.record_at(first);
+            if !self.passes(first, r) {
+                return Err(Faulty);
             }
-        }
-        first -= 1;
-        base += r.advance;
-        if first == 0 {
-            return UnitSums {
-                first: first,
-                base: base,
-            };
-        }
-        let p = record_at(ws, first - 1);
-        if !same_group(p.group, r.group) {
-            return UnitSums {
-                first: first,
-                base: base,
-            };
-        }
-        if !((p.size == r.size) & (p.ruby == r.ruby)) {
-            return none;
-        }
-        // a seventeenth record
-        if MOST_GROUPED <= i - first {
-            return none;
-        }
-    }
-}
-
-// What the neighbours of a unit that starts with record `i` see of it.
-pub(crate) fn side_at(ws: &[u32], i: usize) -> Side
-    requires { i < record_count ws.now }
-    ensures { side_of result ≡ side_by (rec_at ws.now i) }
-{
-    let r = record_at(ws, i);
-    Side {
-        class: if r.group == 0 { r.class } else { IDEOGRAPHIC },
-        size: r.size,
-        code: r.code,
-    }
-}
-
-// The class index of the unit that starts with record `i`; 0 where there is none.
-pub(crate) fn class_index_at(ws: &[u32], i: usize, classes: &[u8; 28]) -> usize
-    requires { (i < record_count ws.now → SideOk (side_by (rec_at ws.now i))) × (classes.now ≡ class_table) }
-    ensures { ClassIndexFrom ws.now i result }
-{
-    if ws.len() / RECORD_WORDS <= i {
-        return 0;
-    }
-    let side = side_at(ws, i);
-    class_index(side.class, classes)
-}
-
-// What stands between the unit that starts with record `first`, of class index `left`, and the one that starts with
-// record `i`, of class index `right`; nothing, where no unit follows. The last two are the tables that a gap is looked
-// up in.
-pub(crate) fn joint_after(
-    ws: &[u32],
-    first: usize,
-    i: usize,
-    left: usize,
-    right: usize,
-    spacing: &[[Entry; 18]; 18],
-    words: &[[u64; 2]; 10],
-) -> Joint
-    requires joint_due { JointDue ws.now first i left right }
-    requires spacing_value { (spacing.now ≡ spacing_table) × (words.now ≡ entry_words) }
-    ensures { JointAfter ws.now first i result.gap result.forbidden }
-{
-    if i < ws.len() / RECORD_WORDS {
-        joint_between(
-            side_at(ws, first),
-            side_at(ws, i),
-            left,
-            right,
-            spacing,
-            words,
-        )
-    } else {
-        Joint {
-            gap: 0,
-            forbidden: 0,
+            base += r.advance;
+            if first == 0 {
+                return Ok(UnitSums { first, base });
+            }
+            let p = self.paragraph.record_at(first - 1);
+            if !same_group(p.group, r.group) {
+                return Ok(UnitSums { first, base });
+            }
+            if !alike(p, r) {
+                return Err(Faulty);
+            }
+            // a seventeenth record
+            if MOST_GROUPED <= i - first {
+                return Err(Faulty);
+            }
         }
     }
 }

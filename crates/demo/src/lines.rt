@@ -1,115 +1,93 @@
-// A slot's lines, between marks at the two ends of its measure: each with its ruby over it, and beside it its kind and
-// the x of its end.
-ghost use Rattle.std.specs.Prelude.{◌/◌, ◌<◌, length};
+// What a slot holds, out of its words: characters and lines.
+ghost use Rattle.std.specs.Prelude.{◌≡◌, ◌+◌, ◌*◌, ◌<◌, IfSome, Some, length, slice_get, slice_range};
+ghost use Rattle.rules.specs.Layout.{most_records, place_length, places_at, records_at, slot_length};
+ghost use Rattle.rules.specs.Records.{rec_at};
+ghost use Rattle.rules.specs.Structs.{record_of};
 
-use crate::columns::{close_row, column_after, fill, own_column};
-use crate::records::{Line, field, slot_words, word};
-use crate::ruby::print_ruby_row;
-use crate::show::{print_code, print_count, print_number, print_refusal, say};
-use rules::layout::{CODE_POINT, END_X, FINAL, FLUSH, KIND, LINE_WORDS, RECORD_COUNT, SHORT};
-use sheet::{Clinic, SlotNumber};
+use rules::layout::{
+    END_X, FIRST_RECORD, KIND, LINE_WORDS, MOST_RECORDS, PLACE_WORDS, PLACES, RECORDS, SLOT_WORDS,
+};
+use rules::{LineKind, Record};
+use sheet::SlotNumber;
+use std::{array, fmt};
 
-// The characters of a line.
-fn print_row(slot: &[u32], line: Line) {
-    let mut i = line.first;
-    let mut free = 0;
-    while i < line.end {
-        fill(free, own_column(slot, i));
-        print_code(field(slot, i, CODE_POINT));
-        free = column_after(slot, i, free);
-        i += 1;
-    }
-    close_row(slot, free);
-}
-
-// A line's number, in three columns, and the mark where the row begins.
-fn print_label(number: usize) {
-    if number < 10 {
-        say(b" ");
-    }
-    if number < 100 {
-        say(b" ");
-    }
-    print_count(number);
-    say(b" |");
-}
-
-fn print_kind(kind: u32) {
-    match kind {
-        FLUSH => say(b"flush"),
-        SHORT => say(b"short"),
-        FINAL => say(b"final"),
-        _ => say(b"of no kind"),
-    }
-}
-
-// Where a line ends: where the next one begins, whose words start at `next`, or at the record count.
-fn line_end(slot: &[u32], lines: &[u32], next: usize) -> u32 {
-    if next < lines.len() {
-        lines[next]
-    } else {
-        word(slot, RECORD_COUNT)
-    }
-}
-
-// The records of line `j`.
-fn line_at(slot: &[u32], lines: &[u32], j: usize) -> Line
-    requires { j < length lines.now / LINE_WORDS }
+/// The words of a slot, if the sheet has it: a part of the sheet, so that their number stays a clause.
+pub(crate) fn slot_words(sheet: &[u32], slot: SlotNumber) -> Option<&[u32]>
+    ensures words { IfSome result (λ words. words.now
+        ≡ slice_range sheet.now (slot_length * slot.0) (slot_length * slot.0 + slot_length)) }
+    ensures whole { IfSome result (λ words. length words.now ≡ slot_length) }
 {
-    let at = LINE_WORDS * j;
-    Line {
-        first: lines[at],
-        end: line_end(slot, lines, at + LINE_WORDS),
+    let start = SLOT_WORDS * slot.0 as usize;
+    sheet.get(start..start + SLOT_WORDS)
+}
+
+/// A character of a slot: its record, and the x where it is placed.
+#[derive(Clone, Copy, Debug)]
+pub(crate) struct Character {
+    pub(crate) record: Record,
+    pub(crate) x: u32,
+}
+
+impl Character {
+    /// Character `i` of a slot's words.
+    fn at(words: &[u32], i: usize) -> Character
+        requires whole { length words.now ≡ slot_length }
+        requires within { i < most_records }
+        ensures record { record_of result.record ≡ rec_at (slice_range words.now records_at places_at) i }
+        ensures x { slice_get words.now (places_at + place_length * i) ≡ Some result.x }
+    {
+        Character {
+            record: Record::at(&words[RECORDS..PLACES], i),
+            x: words[PLACES + PLACE_WORDS * i],
+        }
+    }
+
+    /// What is shown. A code that is no character's is shown as a question mark.
+    pub(crate) fn shown(&self) -> char {
+        char::from_u32(self.record.code).unwrap_or('?')
     }
 }
 
-// What stands beside a line: its kind and the x of its end.
-fn print_end(kind: u32, x: u32) {
-    say(b" ");
-    print_kind(kind);
-    say(b", ");
-    print_number(x);
-    say(b"\n");
-}
-
-// Line `j` of a slot.
-fn print_line(slot: &[u32], text: &[u8], lines: &[u32], j: usize)
-    requires { j < length lines.now / LINE_WORDS }
+/// The characters that a slot has room for. Those of its text come first.
+pub(crate) fn characters(words: &[u32]) -> [Character; MOST_RECORDS]
+    requires { length words.now ≡ slot_length }
 {
-    let at = LINE_WORDS * j;
-    let line = line_at(slot, lines, j);
-    print_ruby_row(slot, text, line);
-    print_label(j);
-    print_row(slot, line);
-    print_end(lines[at + KIND], lines[at + END_X]);
+    array::from_fn(|i| Character::at(words, i))
 }
 
-fn print_lines(slot: &[u32], text: &[u8], lines: &[u32]) {
-    let count = lines.len() / LINE_WORDS;
-    let mut j = 0;
-    while j < count {
-        print_line(slot, text, lines, j);
-        j += 1;
+/// A line of a slot: its characters, the x of its end, and its kind.
+#[derive(Clone, Copy, Debug)]
+pub(crate) struct Line<'a> {
+    pub(crate) characters: &'a [Character],
+    pub(crate) end_x: u32,
+    pub(crate) kind: u32,
+}
+
+impl<'a> Line<'a> {
+    /// The line of some line words, out of the characters that its slot has room for: it ends before record `end`.
+    pub(crate) fn new(characters: &'a [Character], words: [u32; LINE_WORDS], end: u32) -> Line<'a>
+        ensures end_x { slice_get words 1 ≡ Some result.end_x }
+        ensures kind { slice_get words 2 ≡ Some result.kind }
+    {
+        let first = words[FIRST_RECORD] as usize;
+        let end = characters.len().min(end as usize);
+        Line {
+            characters: characters.get(first..end).unwrap_or(&[]),
+            end_x: words[END_X],
+            kind: words[KIND],
+        }
     }
 }
 
-// What a clinic gets when it reads a slot: how many lines there are, or a refusal.
-pub(crate) fn print_read(sheet: &[u32], caller: Clinic, slot: SlotNumber) {
-    let number = sheet::read_number(sheet, caller, slot);
-    if number != 0 {
-        print_refusal(number);
-        say(b"\n");
-        return;
+/// A line's kind and the x of its end, as they stand beside it.
+impl fmt::Display for Line<'_> {
+    fn fmt<W: fmt::Write>(&self, f: &mut fmt::Formatter<W>) -> fmt::Result {
+        let kind = match LineKind::try_from(self.kind) {
+            Ok(LineKind::Flush) => "flush",
+            Ok(LineKind::Short) => "short",
+            Ok(LineKind::Final) => "final",
+            Err(_) => "of no kind",
+        };
+        write!(f, "{kind}, {}", self.end_x)
     }
-    let lines = sheet::read(sheet, caller, slot);
-    say(b"  read: ");
-    print_count(lines.len() / LINE_WORDS);
-    say(b" lines.\n");
-}
-
-// The same, and the lines, of which a refused read hands back none. `text` is the markup that was imported.
-pub(crate) fn print_slot(sheet: &[u32], caller: Clinic, slot: SlotNumber, text: &[u8]) {
-    print_read(sheet, caller, slot);
-    let lines = sheet::read(sheet, caller, slot);
-    print_lines(slot_words(sheet, slot), text, lines);
 }

@@ -1,9 +1,6 @@
 -- What is proved of the exports, in reading order: what crate `sheet` proves of every run of its calls, said of every
 -- run of `gelumbrio_*`. Each claim is proved by one citation. Assumes nothing.
-use mathlib.Core.Path.{◌≡◌, refl}
-use Prim.Native.Nat.{ℕ}
-use mathlib.Core.List.{List, map}
-use lib.ListN.{length, get_or}
+use Rattle.std.proofs.Common.{◌≡◌, refl, ℕ, List, map, length, get_or}
 -- words of the rules
 use Rattle.rules.specs.Sheet.{clinic_of, slot_at}
 -- calls, the book and runs

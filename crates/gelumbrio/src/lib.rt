@@ -1,5 +1,7 @@
 // The calls for programs in C and Rust. A slice passes as a pointer, then its length in words, or in bytes where it is
-// text. The header that declares them is include/gelumbrio.h.
+// text. The header that declares them is include/gelumbrio.h: by it answers are structs with numbers, a class and a
+// list's answer are numbers, and caller and slot, place, deleted and inserted, size and text, and a set-up's three
+// lists stand beside each other.
 #![tactic(auto)]
 
 ghost use Rattle.std.specs.Prelude.{◌≡◌, cond};
@@ -9,6 +11,7 @@ ghost use Rattle.rules.specs.Refusals.{says, edit_says, set_up, edit, read_numbe
 ghost use Rattle.rules.specs.Pool.{taking, giving_back};
 ghost use Rattle.sheet.specs.Import.{import};
 
+use lists::Class;
 use sheet::{Answer, Clinic, EditAnswer, ImportAnswer, Part, RubyPlace, SlotNumber};
 
 #[unsafe(no_mangle)]
@@ -102,11 +105,7 @@ pub extern "C" fn gelumbrio_ruby_place(
 pub extern "C" fn gelumbrio_in_list(class_number: u32, code: u32) -> u32
     ensures { result ≡ cond (in_list class_number code) 1 0 }
 {
-    if lists::in_list(class_number, code) {
-        1
-    } else {
-        0
-    }
+    u32::from(lists::in_list(class_number, code))
 }
 
 // The class that a code point gets, or 0 where no list has it.
@@ -114,5 +113,5 @@ pub extern "C" fn gelumbrio_in_list(class_number: u32, code: u32) -> u32
 pub extern "C" fn gelumbrio_class_of(code: u32) -> u32
     ensures { result ≡ class_of code }
 {
-    lists::class_of(code)
+    lists::class_of(code).map_or(0, Class::number)
 }

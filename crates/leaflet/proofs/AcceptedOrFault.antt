@@ -1,19 +1,15 @@
 -- How the reader ends: a text is accepted, or has its fault where the reader stopped. Assumes nothing.
-use mathlib.Core.Path.{◌≡◌, refl, sym, ap, ◌∙◌}
-use Prim.Native.Nat.{ℕ, ◌+◌}
-use native.Mathlib.Omega.{arith}
-use mathlib.Core.Bool.{true}
-use mathlib.Core.List.{List, [], ◌∷◌, append-nil}
-use mathlib.Core.Logic.{inl, inr}
-use mathlib.Core.Option.{none, some}
-use lib.ListN.{length}
+use Rattle.std.proofs.Common.{◌≡◌, refl, sym, ap, ◌∙◌, ℕ, ◌+◌, arith, true, List, [], ◌∷◌, append-nil, inl, inr, None}
+use Rattle.std.proofs.Common.{Some, length}
 use Rattle.leaflet.specs.Items.{bytes}
 use Rattle.leaflet.specs.Contents.{Piece, spell, Spells, Accepted, reading}
 use Rattle.leaflet.specs.Faults.{Fault}
 use Rattle.leaflet.specs.Spots.{Spot, outside, opened, in_base, bare_opened, in_bare, in_first, rt_due}
 use Rattle.leaflet.specs.Spots.{fenced_opened, in_fenced, rp_due, in_last, closing, is_outside}
 use Rattle.leaflet.specs.Reader.{ended, scan, items_of, parts, fault, fault_in, read}
-use Rattle.leaflet.proofs.Decisions.{tested, nil_cons, true_false, no_way}
+use Rattle.std.proofs.lemmas.Bool.{cases_Bool, true≢false}
+use Rattle.rules.proofs.Decisions.{nil_cons}
+use Rattle.leaflet.proofs.Decisions.{no_way}
 use Rattle.leaflet.proofs.Runs.{run_spell}
 use Rattle.leaflet.proofs.Beginnings.{run_spelt}
 use Rattle.leaflet.proofs.GatheredParts.{parts_spelt}
@@ -36,12 +32,12 @@ outside_is closing e = no_way (cc)
 
 -- a scan ends well exactly at the end of a text, outside ruby elements
 data Ends (q : Spot) (k : ℕ) (bs : List ℕ) : Type 0 where
-  well : ended q k bs ≡ none → q ≡ outside → bs ≡ [] → Ends q k bs
-  badly : ended q k bs ≡ some k → (q ≡ outside → bs ≡ [] → ⊥) → Ends q k bs
+  well : ended q k bs ≡ None → q ≡ outside → bs ≡ [] → Ends q k bs
+  badly : ended q k bs ≡ Some k → (q ≡ outside → bs ≡ [] → ⊥) → Ends q k bs
 
 ends : (q : Spot) (k : ℕ) (bs : List ℕ) → Ends q k bs
 ends q k bs =
-    elim (tested (is_outside q)) [ inl e ↦ here bs e | inr e ↦ badly (rw e) (λ z b. true_false (sym (rw z) ∙ e)) ]
+    elim (cases_Bool (is_outside q)) [ inl e ↦ here bs e | inr e ↦ badly (rw e) (λ z b. true≢false (sym (rw z) ∙ e)) ]
   where
     here : (bs : List ℕ) → is_outside q ≡ true → Ends q k bs
     here [] e = well (rw e) (outside_is q e) refl
@@ -73,8 +69,8 @@ items_spelt {bs} {ps} s =
 
 -- what a text is, and what the reader says of it
 pub data Told (bs : List ℕ) : Type 0 where
-  accepted : (a : Accepted bs) → fault_in bs ≡ none → read bs ≡ parts (reading a.content) → Told bs
-  refused : (k : ℕ) → Fault bs k → fault_in bs ≡ some k → read bs ≡ fault k → Told bs
+  accepted : (a : Accepted bs) → fault_in bs ≡ None → read bs ≡ parts (reading a.content) → Told bs
+  refused : (k : ℕ) → Fault bs k → fault_in bs ≡ Some k → read bs ≡ fault k → Told bs
 
 pub told : (bs : List ℕ) → Told bs
 unfolding read fault_in

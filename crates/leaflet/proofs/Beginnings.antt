@@ -1,6 +1,5 @@
 -- Beginnings: a beginning is exactly what a reader can get through. Assumes nothing.
-use mathlib.Core.Path.{◌≡◌, refl}
-use mathlib.Core.List.{List, [], ◌∷◌, ◌++◌, append-nil}
+use Rattle.std.proofs.Common.{◌≡◌, refl, List, [], ◌∷◌, ◌++◌, append-nil}
 use Rattle.leaflet.specs.Items.{Item}
 use Rattle.leaflet.specs.Contents.{Piece, spell, Proper}
 use Rattle.leaflet.specs.Faults.{Beginning}

@@ -1,14 +1,9 @@
--- What is proved of leaflets (document 02, request 05), in reading order: of texts and answer 17's place, which speak
--- of no reader; of the records that an import hands to edit; of the reader; and of the program. The definitions that
--- the statements name are those of specs/Utf8, Items, Contents, Faults and Imported; `first_char` of proofs/NextItem,
--- the rows of Unicode's table; and, from the reader on, `read`, `fault_in` and `words_in` of specs/Reader. Assumes
--- nothing.
-use mathlib.Core.Path.{◌≡◌, sym, ap, ◌∙◌}
-use Prim.Native.Nat.{ℕ}
-use mathlib.Core.Bool.{true}
-use mathlib.Core.List.{List, ◌++◌}
-use mathlib.Core.Logic.{◌⊎◌, inl, inr, ◌↔◌}
-use mathlib.Core.Option.{none, some}
+-- What is proved of leaflets ("How a leaflet is read" in docs/RULES.md), in reading order: of texts and answer 17's
+-- place, which speak of no reader; of the records that an import hands to edit; of the reader; and of the program. The
+-- definitions that the statements name are those of specs/Utf8, Items, Contents, Faults and Imported; `first_char` of
+-- proofs/NextItem, the rows of Unicode's table; and, from the reader on, `read`, `fault_in` and `words_in` of
+-- specs/Reader. Assumes nothing.
+use Rattle.std.proofs.Common.{◌≡◌, sym, ap, ◌∙◌, ℕ, true, List, ◌++◌, ◌⊎◌, inl, inr, ◌↔◌, None, Some}
 use Rattle.lists.specs.Lists.{lists}
 use Rattle.lists.specs.Meanings.{Belongs}
 use Rattle.rules.specs.Records.{code_ok, size_ok, advance_ok, rec_ok, record_words}
@@ -104,7 +99,7 @@ read_parts bs rs h = parts_told bs rs h
 pub read_fault : (bs : List ℕ) (k : ℕ) → (read bs ≡ fault k) ↔ Fault bs k
 read_fault bs k = fault_told bs k
 
--- the texts of request 05 come out as they were worked by hand, and the words of a small one
+-- texts come out as they were worked by hand, and the words of a small one
 pub worked : right texts ≡ true
 worked = texts_hold
 
@@ -114,10 +109,10 @@ words_worked = words_hold
 -- The program -----------------------------------------------------------------------------------------------------
 
 -- its contract speaks of `fault_in` and `words_in`. `fault_in` is none of an accepted text, and else answer 17's place
-pub fault_none : (bs : List ℕ) → (fault_in bs ≡ none) ↔ Accepted bs
+pub fault_none : (bs : List ℕ) → (fault_in bs ≡ None) ↔ Accepted bs
 fault_none bs = none_told bs
 
-pub fault_some : (bs : List ℕ) (k : ℕ) → (fault_in bs ≡ some k) ↔ Fault bs k
+pub fault_some : (bs : List ℕ) (k : ℕ) → (fault_in bs ≡ Some k) ↔ Fault bs k
 fault_some bs k = some_told bs k
 
 -- `words_in` of an accepted text are the words of its reading's records

@@ -1,14 +1,13 @@
 -- The items of moves are elements: characters other than "<", and tags. Assumes nothing.
-use mathlib.Core.Path.{◌≡◌, sym, ◌∙◌}
-use Prim.Native.Nat.{ℕ}
-use mathlib.Core.Bool.{true, not, and-eq-true_iff}
+use Rattle.std.proofs.Common.{◌≡◌, sym, ◌∙◌, ℕ, true, not}
+use Rattle.std.proofs.Math.Bool.{and-eq-true_iff}
 use borrow.Author.Tests.{not-true}
 use Rattle.rules.specs.Records.{code_ok}
 use Rattle.leaflet.specs.Items.{Item, char, less_than}
 use Rattle.leaflet.specs.Contents.{bracket, text_char, plain_char, listed}
 use Rattle.leaflet.specs.Faults.{Element}
 use Rattle.leaflet.specs.Spots.{Spot}
-use Rattle.leaflet.proofs.Decisions.{true_false}
+use Rattle.std.proofs.lemmas.Bool.{true≢false}
 use Rattle.leaflet.proofs.SpotMoves.{Move, single_char, open_ruby, first_base, more_base, open_bare, first_bare}
 use Rattle.leaflet.proofs.SpotMoves.{more_bare, end_bare, open_first, more_first, end_first, open_fenced}
 use Rattle.leaflet.proofs.SpotMoves.{first_fenced, more_fenced, end_fenced, open_last, more_last, end_last}
@@ -18,7 +17,7 @@ text_element : (c : ℕ) → text_char c ≡ true → Element (char c)
 unfolding text_char
 text_element c e =
     let p = (and-eq-true_iff (code_ok c) (not (bracket c))).0 e in
-    (p.0, λ z. true_false (sym (not_bracket z) ∙ not-true _ p.1))
+    (p.0, λ z. true≢false (sym (not_bracket z) ∙ not-true _ p.1))
   where
     not_bracket : c ≡ less_than → bracket c ≡ true
     not_bracket z = rw z

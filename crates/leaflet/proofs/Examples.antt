@@ -1,10 +1,7 @@
--- Document 02, request 05, as texts worked by hand: one table, with one claim over all rows that the checker computes,
--- and the words of a small text. What a row says is told in Worked.antt. Assumes nothing.
-use mathlib.Core.Path.{◌≡◌, refl}
-use Prim.Native.Nat.{ℕ}
+-- Texts worked by hand: one table, with one claim over all rows that the checker computes, and the words of a small
+-- text. What a row says is told in Worked.antt. Assumes nothing.
+use Rattle.std.proofs.Common.{◌≡◌, refl, ℕ, true, List, [], ◌∷◌, ◌++◌}
 use Prim.Native.String.{String}
-use mathlib.Core.Bool.{true}
-use mathlib.Core.List.{List, [], ◌∷◌, ◌++◌}
 use Rattle.leaflet.specs.Reader.{words_in}
 use Rattle.leaflet.proofs.Worked.{bytes_of, Row, accepted, each, under, refused, ill_formed, right, computed}
 
@@ -67,7 +64,7 @@ texts =
     ∷ ill_formed "<ruby>漢<rt>か" (0xE3 ∷ 0x81 ∷ bytes_of "</rt></ruby>") 16
     ∷ []
 
--- every row comes out as request 05 has it
+-- every row comes out as it was worked by hand
 pub texts_hold : right texts ≡ true
 unfolding computed texts
 texts_hold = refl

@@ -1,7 +1,5 @@
 -- Items read from the last to the first give back a content's reading. Assumes nothing.
-use mathlib.Core.Path.{◌≡◌, refl, ap, ◌∙◌}
-use Prim.Native.Nat.{ℕ}
-use mathlib.Core.List.{List, [], ◌∷◌, ◌++◌, append-nil}
+use Rattle.std.proofs.Common.{◌≡◌, refl, ap, ◌∙◌, ℕ, List, [], ◌∷◌, ◌++◌, append-nil}
 use Rattle.rules.specs.Basics.{whole}
 use Rattle.leaflet.specs.Items.{Item, char, tag, Tag}
 use Rattle.leaflet.specs.Contents.{Annotation, bare, fenced, Piece, single, group, chars, spell_annotation, spell}

@@ -1,13 +1,8 @@
 -- The records of an import: each stands in the list of its class, and outside groups keeps its own rules where the size
 -- does. Assumes nothing.
-use mathlib.Core.Path.{◌≡◌, refl}
-use Prim.Native.Nat.{ℕ, suc, ◌*◌, ◌/◌}
-use native.Mathlib.Omega.{arith}
-use mathlib.Core.Bool.{true, and-eq-true_iff}
-use mathlib.Core.List.{List, [], ◌∷◌, ◌++◌, map}
-use mathlib.Core.Logic.{inl, inr}
-use lib.Dec.{ltb}
-use borrow.Author.Tests.{le-leb, eq-eqb}
+use Rattle.std.proofs.Common.{◌≡◌, refl, ℕ, suc, ◌*◌, ◌/◌, arith, true, List, [], ◌∷◌, ◌++◌, map, inl, inr, ltb}
+use Rattle.std.proofs.Common.{le-leb, eq-eqb}
+use Rattle.std.proofs.Math.Bool.{and-eq-true_iff}
 use Rattle.lists.specs.Lists.{class_of}
 use Rattle.rules.specs.Basics.{whole}
 use Rattle.rules.specs.Records.{Rec, size_ok, AdvanceKind, half_size, to_size, to_twice, full_size, advance_kind}
@@ -16,7 +11,7 @@ use Rattle.rules.specs.Meanings.{All, all_none, all_more, Listed}
 use Rattle.rules.proofs.Bounds.{SizeBounds, size_bounds}
 use Rattle.leaflet.specs.Contents.{text_char, plain_char, listed, Piece, single, group, Each, Proper, reading}
 use Rattle.leaflet.specs.Imported.{as_word, advance_by, advance_of, record_of, records_after, word_values, most_word}
-use Rattle.leaflet.proofs.Decisions.{tested}
+use Rattle.std.proofs.lemmas.Bool.{cases_Bool}
 use Rattle.leaflet.proofs.Elements.{plain_element}
 use Rattle.leaflet.proofs.ListedCodes.{own_list, own_class}
 
@@ -28,7 +23,7 @@ plain_listed c e = ((and-eq-true_iff (text_char c) (listed c)).0 e).1
 numbered : (k : ℕ) → as_word (suc k) ≡ 0 → ⊥
 unfolding as_word
 numbered k e =
-    elim (tested (ltb (suc k) word_values)) [
+    elim (cases_Bool (ltb (suc k) word_values)) [
       | inl t ↦ let f : suc k ≡ 0 = rw t at e in omega arith
       | inr t ↦ let f : most_word ≡ 0 = rw t at e in omega arith
     ]
@@ -55,7 +50,9 @@ records_listed s ps h =
 kind_fits : (k : AdvanceKind) (s : ℕ) → SizeBounds s → advance_fits k s (advance_by k s) ≡ true
 kind_fits half_size s b = eq-eqb (s / 2) (s / 2) refl
 kind_fits to_size s b = rw (le-leb 1 (s / 2) (omega (arith, b.least)), le-leb (s / 2) s (omega arith))
-kind_fits to_twice s b = rw (le-leb 1 (s / 2) (omega (arith, b.least)), le-leb (s / 2) (2 * s) (omega arith))
+kind_fits to_twice s b =
+    let a = advance_by to_twice s in
+    rw (le-leb 1 a (omega (arith, b.least)), le-leb a (2 * s) (omega arith))
 kind_fits full_size s b = eq-eqb s s refl
 
 pub advance_of_ok : (c s : ℕ) → size_ok s ≡ true → advance_ok c s (advance_of c s) ≡ true

@@ -1,19 +1,13 @@
--- Items from an offset on: the loops that look ahead, as steps. Assumes nothing.
-use mathlib.Core.Path.{◌≡◌, refl, sym, ap, ◌∙◌}
-use Prim.Native.Nat.{ℕ, zero, suc, ◌+◌, ◌-◌, ◌^◌, ◌≤◌, ◌<◌}
-use native.Mathlib.Omega.{arith}
-use mathlib.Core.List.{List, [], ◌∷◌}
-use lib.ListN.{length, drop, length-drop}
-use lib.Seq.{drop-length}
-use mir.Syntax.{w64}
-use mir.Val.{Fits}
-use Rattle.leaflet.specs.Items.{Item, char, tag, item_bytes}
+-- The items of a text, by its first. Assumes nothing.
+use Rattle.std.proofs.Common.{◌≡◌, refl, sym, ap, ◌∙◌, arith, ℕ, zero, suc, ◌≤◌, Bool, true, false}
+use Rattle.std.proofs.Common.{List, [], ◌∷◌, length, take, drop}
+use Rattle.std.proofs.Math.Numerals.{one-add}
+use Rattle.std.specs.List.{prefix_len}
+use Rattle.std.proofs.lemmas.List.Folds.{length-prefix_len}
+use Rattle.leaflet.specs.Items.{Item, Tag, char, tag}
 use Rattle.leaflet.specs.Decoding.{Next, nothing, found, next}
 use Rattle.leaflet.specs.Reader.{items_of, items_from}
-use Rattle.leaflet.specs.Enums.{tag_of, FoundAt}
-use Rattle.leaflet.specs.declared.spots.Tag.{Tag as TagEnum}
-use Rattle.leaflet.specs.declared.items.Found.{Found}
-use Rattle.leaflet.specs.declared.items.Found.TheVariants.{Nothing, Character, Markup}
+use Rattle.leaflet.specs.Written.{chars_before_tag, rt_ahead}
 use Rattle.leaflet.proofs.Scans.{item_some}
 use Rattle.leaflet.proofs.FaultSteps.{next_shorter}
 
@@ -45,58 +39,63 @@ items_bound (suc n) zero [] h l = items_none (suc n) [] refl ∙ sym (items_none
 items_bound (suc n) zero (b ∷ bs) h l = absurd (omega arith)
 items_bound (suc n) (suc m) bs h l = by_next n m (λ ds. items_bound n m ds) bs h l (next bs) refl
 
-items_next : (bs : List ℕ) (i : Item) (ds : List ℕ) → next bs ≡ found i ds → items_from bs ≡ i ∷ items_from ds
+pub items_next : (bs : List ℕ) (i : Item) (ds : List ℕ) → next bs ≡ found i ds → items_from bs ≡ i ∷ items_from ds
 items_next bs i ds e =
     let w = next_shorter bs i ds e in
     items_bound (length bs) (suc (length bs)) bs (omega arith) (omega arith) ∙ items_one (length bs) bs i ds e
     ∙ ap (λ is. i ∷ is) (items_bound (length bs) (length ds) ds (omega arith) (omega arith))
 
-pub items_end : (bs : List ℕ) (at : ℕ) → length bs ≤ at → at ≤ length bs → items_from (drop at bs) ≡ []
+pub items_end : (bs : List ℕ) → next bs ≡ nothing → items_from bs ≡ []
+items_end bs e = items_none (length bs) bs e
+
+-- no text starts with more items than it has bytes
+items_few : (n : ℕ) (bs : List ℕ) → length (items_of n bs) ≤ n
 unfolding items_of
-items_end bs at h k =
-    let e : at ≡ length bs = omega arith in
-    let d : drop at bs ≡ [] = rw e (drop-length bs) in
-    rw d
+items_few zero bs = omega arith
+items_few (suc n) bs = by_next n bs (λ ds. items_few n ds) (next bs) refl
+  where
+    by_next : (n : ℕ) (bs : List ℕ) → ((ds : List ℕ) → length (items_of n ds) ≤ n) → (f : Next) → next bs ≡ f →
+        length (items_of (suc n) bs) ≤ suc n
+    by_next n bs less nothing e = rw (items_none (suc n) bs e) (omega arith)
+    by_next n bs less (found i ds) e = rw (items_one n bs i ds e) (omega (arith, less ds))
 
--- what a program found at an offset, as an item and those after it ------------------------------------------------
+pub items_fit : (bs : List ℕ) → length (items_from bs) ≤ length bs
+items_fit bs = items_few (length bs) bs
 
-module _ {bs : List ℕ} {at : ℕ} {r : Found} (f : FoundAt bs at (next (drop at bs)) r) where
-  pub at_nothing : r ≡ Nothing → items_from (drop at bs) ≡ []
-  at_nothing e = items_none (length (drop at bs)) (drop at bs) (sym (rw e at f.same))
+-- What stands in the next rt, as the program takes it -----------------------------------------------------------------
 
-  pub at_char : (c w : ℕ) → r ≡ Character c w → items_from (drop at bs) ≡ char c ∷ items_from (drop (at + w) bs)
-  at_char c w e = items_next (drop at bs) (char c) (drop (at + w) bs) (sym (rw e at f).same)
+abbrev pub is_char : Item → Bool
+is_char (char c) = true
+is_char (tag t) = false
 
-  pub at_tag : (v : TagEnum) (w : ℕ) → r ≡ Markup v w →
-      items_from (drop at bs) ≡ tag (tag_of v) ∷ items_from (drop (at + w) bs)
-  at_tag v w e = items_next (drop at bs) (tag (tag_of v)) (drop (at + w) bs) (sym (rw e at f).same)
+abbrev pub is_no_rt : Item → Bool
+is_no_rt (char c) = true
+is_no_rt (tag Tag.ruby) = true
+is_no_rt (tag Tag.ruby_end) = true
+is_no_rt (tag Tag.rt) = false
+is_no_rt (tag Tag.rt_end) = true
+is_no_rt (tag Tag.rp) = true
+is_no_rt (tag Tag.rp_end) = true
 
-  -- the next offset is within the text, and past this one
-  next_offset : (i : Item) (w : ℕ) → at < length bs → at + w ≤ length bs →
-      next (drop at bs) ≡ found i (drop (at + w) bs) → (1 ≤ w) × (at + w ≤ length bs)
-  next_offset i w h k e =
-      let n : length bs - at ≡ length (item_bytes i) + (length bs - (at + w))
-      = simp length-drop at (next_shorter (drop at bs) i (drop (at + w) bs) e) in
-      omega (arith, item_some i)
+chars_counted : (is : List Item) → prefix_len is_char is ≡ chars_before_tag is
+unfolding chars_before_tag
+chars_counted [] = refl
+chars_counted (char c ∷ is) = omega (arith, chars_counted is)
+chars_counted (tag t ∷ is) = refl
 
-  pub next_offset_char : (c w : ℕ) → at < length bs → r ≡ Character c w → (1 ≤ w) × (at + w ≤ length bs)
-  next_offset_char c w h e = let d = rw e at f in next_offset (char c) w h d.fits (sym d.same)
+abbrev pub past_rt : List Item → List Item
+past_rt is = drop 1 (drop (prefix_len is_no_rt is) is)
 
-  pub next_offset_tag : (v : TagEnum) (w : ℕ) → at < length bs → r ≡ Markup v w → (1 ≤ w) × (at + w ≤ length bs)
-  next_offset_tag v w h e = let d = rw e at f in next_offset (tag (tag_of v)) w h d.fits (sym d.same)
+rt_counted : (is : List Item) → prefix_len is_char (past_rt is) ≡ rt_ahead is
+unfolding rt_ahead
+rt_counted [] = refl
+rt_counted (char c ∷ is) = rw (one-add _) (rt_counted is)
+rt_counted (tag Tag.ruby ∷ is) = rw (one-add _) (rt_counted is)
+rt_counted (tag Tag.ruby_end ∷ is) = rw (one-add _) (rt_counted is)
+rt_counted (tag Tag.rt ∷ is) = chars_counted is
+rt_counted (tag Tag.rt_end ∷ is) = rw (one-add _) (rt_counted is)
+rt_counted (tag Tag.rp ∷ is) = rw (one-add _) (rt_counted is)
+rt_counted (tag Tag.rp_end ∷ is) = rw (one-add _) (rt_counted is)
 
-  -- so less is left, and the next offset is a number that the program can hold
-  pub less_char : (c w : ℕ) → at < length bs → r ≡ Character c w → length bs - (at + w) < length bs - at
-  less_char c w h e = omega (arith, next_offset_char c w h e)
-
-  pub less_tag : (v : TagEnum) (w : ℕ) → at < length bs → r ≡ Markup v w → length bs - (at + w) < length bs - at
-  less_tag v w h e = omega (arith, next_offset_tag v w h e)
-
-  pub fits_char : (c w : ℕ) → r ≡ Character c w → length bs < 2 ^ 64 → Fits w64 (at + w)
-  fits_char c w e h = record { fits = omega (arith, (rw e at f).fits) }
-
-  pub past_tag : (v : TagEnum) (w : ℕ) → r ≡ Markup v w → at + w ≤ length bs
-  past_tag v w e = (rw e at f).fits
-
-  pub fits_tag : (v : TagEnum) (w : ℕ) → r ≡ Markup v w → length bs < 2 ^ 64 → Fits w64 (at + w)
-  fits_tag v w e h = record { fits = omega (arith, (rw e at f).fits) }
+pub rt_taken : (is : List Item) → length (take (prefix_len is_char (past_rt is)) (past_rt is)) ≡ rt_ahead is
+rt_taken is = length-prefix_len is_char (past_rt is) ∙ rt_counted is

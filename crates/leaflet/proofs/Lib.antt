@@ -24,27 +24,21 @@ pub mod Standings
 pub mod ReadAnswers
 -- The records: their classes' lists, their own rules, and that they can be written from the first item to the last.
 pub mod ListedCodes
+pub mod AdvanceOf
 pub mod ImportedRecords
 pub mod WrittenRecords
--- The program: a character and a tag at an offset (src/items.rt), what may stand at a spot (characters.rt, spots.rt),
--- and a record's advance (records.rt).
-pub mod CharBytesAt
-pub mod CharAt
-pub mod TagAt
+-- The program: the tag that a text starts with (src/items.rt), and one item of a text, by where it leads and by what
+-- follows it.
+pub mod SplitTag
 pub mod PlainClass
-pub mod TagNumbers
-pub mod SpotSteps
-pub mod AdvanceOf
--- Its loops that write nothing: the fault from an offset on (`fault_from`), and the rt ahead (`rt_ahead`).
 pub mod FaultSteps
-pub mod FaultFromLoop
 pub mod ItemsFrom
-pub mod RtAheadLoops
--- And what it writes: ruby counts (`put_ruby`), a character's record (`put_character`), and a text (`read_leaflet`), by
--- what its loop holds.
+-- And what it writes: ruby counts (`put_ruby`), a character's record (`put_character`), what an item adds (`past`), and
+-- a text (`read_leaflet`), by what its loop holds.
 pub mod PutRuby
 pub mod PutCharacter
 pub mod PutWords
+pub mod Passing
 pub mod ReadHeld
 pub mod ReadHeldChars
 pub mod ReadHeldTags

@@ -1,13 +1,8 @@
 -- A code point gets a class exactly where some list has it, and stands in the list of the class that it gets. Assumes
 -- nothing.
-use mathlib.Core.Path.{◌≡◌, refl, sym, ◌∙◌}
-use Prim.Native.Nat.{ℕ}
-use native.Mathlib.Omega.{arith}
-use mathlib.Core.Bool.{true, false, or-true}
-use mathlib.Core.List.{List, ◌∷◌, map}
-use mathlib.Core.Logic.{◌↔◌}
-use lib.Dec.{eqb}
-use borrow.Author.Tests.{eqb-false, eq-eqb, ne_eqb, not-true}
+use Rattle.std.proofs.Common.{◌≡◌, refl, sym, ◌∙◌, ℕ, arith, true, false, List, ◌∷◌, map, ◌↔◌, eqb, eq-eqb, ne_eqb}
+use Rattle.std.proofs.Math.Bool.{or-true}
+use borrow.Author.Tests.{eqb-false, not-true}
 use Rattle.lists.specs.Ranges.{Range}
 use Rattle.lists.specs.Lists.{ClassList, list, lists, in_list, class_of}
 use Rattle.lists.specs.Meanings.{Among, among_here, among_later, Belongs, Gets, gets_western, gets_lowest, gets_none}
@@ -16,7 +11,7 @@ use Rattle.rules.specs.Basics.{is_in}
 use Rattle.rules.specs.Records.{class_ok}
 use Rattle.rules.proofs.Listed.{class_in, classes_listed}
 use Rattle.leaflet.specs.Contents.{listed}
-use Rattle.leaflet.proofs.Decisions.{true_false}
+use Rattle.std.proofs.lemmas.Bool.{true≢false}
 
 -- 0 is no class
 no_list_0 : (c : ℕ) → in_list 0 c ≡ false
@@ -30,7 +25,7 @@ gets_own (gets_none g) h = absurd (h refl)
 
 gets_some : {c d e : ℕ} → Gets c d → Belongs e c lists → d ≡ 0 → ⊥
 gets_some (gets_western w) b z = omega arith
-gets_some {c} (gets_lowest f w g) b z = true_false (sym ((in_list_means 0 c).1 (rw z at w)) ∙ no_list_0 c)
+gets_some {c} (gets_lowest f w g) b z = true≢false (sym ((in_list_means 0 c).1 (rw z at w)) ∙ no_list_0 c)
 gets_some {e = e} (gets_none g) b z = g e b
 
 pub own_list : (c : ℕ) → listed c ≡ true → Belongs (class_of c) c lists

@@ -1,9 +1,6 @@
 -- Where a reader stops is where the longest beginning ends, and no other beginning is the longest. Assumes nothing.
-use mathlib.Core.Path.{◌≡◌, refl, sym, ap, ◌∙◌}
-use Prim.Native.Nat.{ℕ, zero, suc, ◌≤◌}
-use native.Mathlib.Omega.{arith}
-use mathlib.Core.List.{List, [], ◌∷◌, ◌++◌, append_assoc, append-nil}
-use lib.ListN.{length, length-append}
+use Rattle.std.proofs.Common.{◌≡◌, refl, sym, ap, ◌∙◌, ℕ, zero, suc, ◌≤◌, arith, List, [], ◌∷◌, ◌++◌, append_assoc}
+use Rattle.std.proofs.Common.{append-nil, length, length-append}
 use Rattle.leaflet.specs.Items.{Item, item_bytes, bytes}
 use Rattle.leaflet.specs.Contents.{spell, Accepted}
 use Rattle.leaflet.specs.Faults.{LongestBeginning}

@@ -1,14 +1,7 @@
 -- What `next` finds in a text is the item whose bytes the text starts with, and no such item escapes it. Assumes
 -- nothing.
-use mathlib.Core.Path.{◌≡◌, refl, ◌∙◌}
-use Prim.Native.Nat.{ℕ, ◌<◌}
-use native.Mathlib.Omega.{arith}
-use mathlib.Core.Bool.{true}
-use mathlib.Core.List.{List, [], ◌∷◌, ◌++◌}
-use mathlib.Core.Logic.{inl, inr}
-use mathlib.Core.Option.{Option, none, some}
-use lib.Dec.{ltb, eqb}
-use borrow.Author.Tests.{lt-ltb, ltb-true, eqb-true, ne_eqb}
+use Rattle.std.proofs.Common.{◌≡◌, refl, ◌∙◌, ℕ, ◌<◌, arith, true, List, [], ◌∷◌, ◌++◌, inl, inr, Option, None, Some}
+use Rattle.std.proofs.Common.{ltb, eqb, lt-ltb, ltb-true, eqb-true, ne_eqb}
 use Rattle.rules.specs.Basics.{within}
 use Rattle.rules.specs.Records.{code_ok}
 use Rattle.leaflet.specs.Utf8.{utf8}
@@ -16,7 +9,7 @@ use Rattle.leaflet.specs.Items.{Item, char, tag, Tag, tag_bytes, item_bytes, les
 use Rattle.leaflet.specs.Faults.{Element}
 use Rattle.leaflet.specs.Decoding.{Next, nothing, found, next_char, strip, tag_or, next_tag, all_tags, next}
 use Rattle.leaflet.proofs.ByteRanges.{limits}
-use Rattle.leaflet.proofs.Decisions.{tested}
+use Rattle.std.proofs.lemmas.Bool.{cases_Bool}
 use Rattle.leaflet.proofs.Utf8Decoded.{width, of_one, of_two, of_three, of_four, one_byte, two_bytes}
 use Rattle.leaflet.proofs.Utf8Decoded.{three_bytes}
 use Rattle.leaflet.proofs.Utf8Decoded.{four_bytes, code_ok_sides, back_two, back_three, back_four}
@@ -28,13 +21,13 @@ use Rattle.leaflet.proofs.Utf8FourBytes.{four_right}
 pub char_right : (b : ℕ) (bs : List ℕ) → Right (b ∷ bs) (next_char b bs)
 unfolding next_char
 char_right b bs =
-    elim (tested (ltb b 0x80)) [
+    elim (cases_Bool (ltb b 0x80)) [
       | inl e ↦ rw e (one_right b bs (ltb-true b 0x80 e))
-      | inr e ↦ elim (tested (within 0xC2 0xDF b)) [
+      | inr e ↦ elim (cases_Bool (within 0xC2 0xDF b)) [
         | inl d ↦ let l = limits 0xC2 0xDF b d in rw (e, d) (two_right b bs l.0 l.1)
-        | inr d ↦ elim (tested (within 0xE0 0xEF b)) [
+        | inr d ↦ elim (cases_Bool (within 0xE0 0xEF b)) [
           | inl f ↦ let l = limits 0xE0 0xEF b f in rw (e, d, f) (three_right b bs l.0 l.1)
-          | inr f ↦ elim (tested (within 0xF0 0xF4 b)) [
+          | inr f ↦ elim (cases_Bool (within 0xF0 0xF4 b)) [
             | inl g ↦ let l = limits 0xF0 0xF4 b g in rw (e, d, f, g) (four_right b bs l.0 l.1)
             | inr g ↦ rw (e, d, f, g) tt
           ]
@@ -43,19 +36,19 @@ char_right b bs =
     ]
 
 abbrev Follows : List ℕ → List ℕ → Option (List ℕ) → Type 0
-Follows ts bs none = Unit {0}
-Follows ts bs (some ds) = ts ++ ds ≡ bs
+Follows ts bs None = Unit {0}
+Follows ts bs (Some ds) = ts ++ ds ≡ bs
 
 follows_more : {t b : ℕ} (ts bs : List ℕ) (o : Option (List ℕ)) → t ≡ b → Follows ts bs o → Follows (t ∷ ts) (b ∷ bs) o
-follows_more ts bs none e f = tt
-follows_more ts bs (some ds) e f = λ i. e i ∷ f i
+follows_more ts bs None e f = tt
+follows_more ts bs (Some ds) e f = λ i. e i ∷ f i
 
 strip_follows : (ts bs : List ℕ) → Follows ts bs (strip ts bs)
 unfolding strip
 strip_follows [] bs = refl
 strip_follows (t ∷ ts) [] = tt
 strip_follows (t ∷ ts) (b ∷ bs) =
-    elim (tested (eqb t b)) [
+    elim (cases_Bool (eqb t b)) [
       | inl e ↦ rw e (follows_more ts bs (strip ts bs) (eqb-true t b e) (strip_follows ts bs))
       | inr e ↦ rw e tt
     ]
@@ -63,8 +56,8 @@ strip_follows (t ∷ ts) (b ∷ bs) =
 or_right : (t : Tag) (bs : List ℕ) (o : Option (List ℕ)) (n : Next) → Follows (tag_bytes t) bs o → Right bs n →
     Right bs (tag_or t o n)
 unfolding item_bytes
-or_right t bs none n f r = r
-or_right t bs (some ds) n f r = (f, tt)
+or_right t bs None n f r = r
+or_right t bs (Some ds) n f r = (f, tt)
 
 tag_right : (ts : List Tag) (bs : List ℕ) → Right bs (next_tag ts bs)
 unfolding next_tag
@@ -76,7 +69,7 @@ pub next_right : (bs : List ℕ) → Right bs (next bs)
 unfolding next
 next_right [] = tt
 next_right (b ∷ bs) =
-    elim (tested (eqb b less_than)) [ inl e ↦ rw e (tag_right all_tags (b ∷ bs)) | inr e ↦ rw e (char_right b bs) ]
+    elim (cases_Bool (eqb b less_than)) [ inl e ↦ rw e (tag_right all_tags (b ∷ bs)) | inr e ↦ rw e (char_right b bs) ]
 
 -- And all is found ------------------------------------------------------------------------------------------------
 

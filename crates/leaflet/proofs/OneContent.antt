@@ -1,8 +1,6 @@
 -- One text has one reading, at the level of items: contents that spell the same items are equal, and reading items from
 -- the last to the first gives back the parts. Assumes nothing.
-use mathlib.Core.Path.{◌≡◌, refl}
-use Prim.Native.Nat.{ℕ}
-use mathlib.Core.List.{List, [], ◌∷◌}
+use Rattle.std.proofs.Common.{◌≡◌, refl, ℕ, List, [], ◌∷◌}
 use Rattle.rules.specs.Basics.{Run, whole}
 use Rattle.leaflet.specs.Items.{Item, tag, Tag}
 use Rattle.leaflet.specs.Contents.{Annotation, bare, fenced, Piece, single, group, chars, spell_annotation, spell}

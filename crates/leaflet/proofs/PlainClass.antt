@@ -1,32 +1,48 @@
--- A plain character's class, and a character without one. Assumes nothing.
-use mathlib.Core.Path.{◌≡◌, ap}
-use Prim.Native.Nat.{ℕ}
-use mathlib.Core.Bool.{true, false, cond, not}
-use mathlib.Core.Logic.{inl, inr}
-use lib.Dec.{eqb}
-use borrow.Author.Tests.{eqb-true}
+-- Whether some list has a code point, as the program gets it. Assumes nothing.
+use Rattle.std.proofs.Common.{◌≡◌, refl, ap, ◌∙◌, ℕ, true, false, eqb, not, Option, None, Some}
+use Rattle.std.specs.Prelude.{is_some}
 use Rattle.lists.specs.Lists.{class_of}
+use Rattle.lists.specs.Classes.{number_of, number_or_0}
+use Rattle.lists.specs.declared.classes.Class.{Class}
+use Rattle.lists.specs.declared.classes.Class.TheVariants.{OpeningBracket, ClosingBracket, Hyphen, DividingMark}
+use Rattle.lists.specs.declared.classes.Class.TheVariants.{MiddleDot, FullStop, Comma, Inseparable, IterationMark}
+use Rattle.lists.specs.declared.classes.Class.TheVariants.{ProlongedSoundMark, SmallKana, PrefixedAbbreviation}
+use Rattle.lists.specs.declared.classes.Class.TheVariants.{PostfixedAbbreviation, FullWidthSpace, Hiragana, Katakana}
+use Rattle.lists.specs.declared.classes.Class.TheVariants.{Ideographic, Western}
 use Rattle.leaflet.specs.Contents.{listed, text_char, plain_char}
-use Rattle.leaflet.proofs.Decisions.{tested}
+
+-- no class has the number 0
+has_number : (class : Class) → true ≡ not (eqb (number_of class) 0)
+has_number OpeningBracket = refl
+has_number ClosingBracket = refl
+has_number Hyphen = refl
+has_number DividingMark = refl
+has_number MiddleDot = refl
+has_number FullStop = refl
+has_number Comma = refl
+has_number Inseparable = refl
+has_number IterationMark = refl
+has_number ProlongedSoundMark = refl
+has_number SmallKana = refl
+has_number PrefixedAbbreviation = refl
+has_number PostfixedAbbreviation = refl
+has_number FullWidthSpace = refl
+has_number Hiragana = refl
+has_number Katakana = refl
+has_number Ideographic = refl
+has_number Western = refl
 
 module _ (c : ℕ) where
-  -- as a program finds it
-  pub plain_class : {k : ℕ} → text_char c ≡ true → k ≡ class_of c → k ≡ cond (plain_char c) (class_of c) 0
-  unfolding plain_char listed
-  plain_class e h =
-      rw h
-      (elim (tested (eqb (class_of c) 0)) [ inl f ↦ rw (e, f) (eqb-true _ _ f) | inr f ↦ rw (e, f) ])
+  some_listed : (r : Option Class) → number_or_0 r ≡ class_of c → is_some r ≡ listed c
+  unfolding listed
+  some_listed None e = ap (λ n. not (eqb n 0)) e
+  some_listed (Some class) e = has_number class ∙ ap (λ n. not (eqb n 0)) e
 
-  pub plain_none : text_char c ≡ false → 0 ≡ cond (plain_char c) (class_of c) 0
+  -- in rt and rp too
+  pub plain_some : (r : Option Class) → text_char c ≡ true → number_or_0 r ≡ class_of c → is_some r ≡ plain_char c
   unfolding plain_char
-  plain_none e = rw e
+  plain_some r t e = rw t (some_listed r e)
 
-  -- it is 0 where the character may not stand
-  pub plain_known : {k : ℕ} → k ≡ cond (plain_char c) (class_of c) 0 → not (eqb k 0) ≡ plain_char c
-  unfolding plain_char listed
-  plain_known h =
-      rw h
-      (elim (tested (text_char c)) [
-        | inl e ↦ elim (tested (eqb (class_of c) 0)) [ inl f ↦ rw (e, f) | inr f ↦ rw (e, f) (ap not f) ]
-        | inr e ↦ rw e
-      ])
+  pub plain_none : text_char c ≡ false → false ≡ plain_char c
+  unfolding plain_char
+  plain_none t = rw t

@@ -1,10 +1,7 @@
 -- Words that are put into others, and the words of records one after the other. Assumes nothing.
-use mathlib.Core.Path.{◌≡◌, refl, sym, ap, ◌∙◌}
-use Prim.Native.Nat.{ℕ, ◌+◌, ◌≤◌}
-use native.Mathlib.Omega.{arith}
-use mathlib.Core.List.{List, [], ◌∷◌, ◌++◌, append_assoc}
-use lib.ListN.{length, take, drop}
-use lib.Seq.{paste, paste-zero, take-paste, take-length, length-take-le, take-append-le, take-take}
+use Rattle.std.proofs.Common.{◌≡◌, refl, ap, ◌∙◌, ℕ, ◌+◌, ◌≤◌, arith, List, [], ◌∷◌, ◌++◌, append_assoc, length}
+use Rattle.std.proofs.Common.{take, drop, length-take-le, take-take}
+use Rattle.std.proofs.Math.Seq.{paste, take-paste, take-length, take-append-le}
 use Rattle.rules.specs.Records.{Rec, record_words}
 
 module _ (d ws : List ℕ) (i : ℕ) (h : i + length ws ≤ length d) where
@@ -20,9 +17,6 @@ module _ (d ws : List ℕ) (i : ℕ) (h : i + length ws ≤ length d) where
       ap (take j) (append_assoc (take i d) vs (drop (i + length ws) d))
       ∙ take-append-le j (take i d) (vs ++ drop (i + length ws) d) (omega arith)
       ∙ take-take j i d l
-
-pub put_nothing : {e : List ℕ} (d : List ℕ) (i : ℕ) → e ≡ paste d i [] 0 → e ≡ d
-put_nothing d i h = h ∙ sym (paste-zero d i [])
 
 pub words_append : (xs ys : List Rec) → record_words (xs ++ ys) ≡ record_words xs ++ record_words ys
 unfolding record_words

@@ -1,11 +1,6 @@
 -- What the reader answers, by what a text is: its reading and its records' words, or answer 17's place. Assumes
 -- nothing.
-use mathlib.Core.Path.{◌≡◌, ap, ◌∙◌}
-use Prim.Native.Nat.{ℕ}
-use mathlib.Core.Bool.{true}
-use mathlib.Core.List.{List, [], ◌∷◌, ◌++◌}
-use mathlib.Core.Logic.{◌↔◌}
-use mathlib.Core.Option.{none, some}
+use Rattle.std.proofs.Common.{◌≡◌, ap, ◌∙◌, ℕ, true, List, [], ◌∷◌, ◌++◌, ◌↔◌, None, Some}
 use Rattle.rules.specs.Records.{code_ok, record_words}
 use Rattle.leaflet.specs.Utf8.{utf8}
 use Rattle.leaflet.specs.Items.{char, item_bytes}
@@ -62,24 +57,24 @@ module _ (bs : List ℕ) where
             | refused j f d e ↦ e ∙ ap fault (place_only f g)
           ]
 
-  pub none_told : (fault_in bs ≡ none) ↔ Accepted bs
+  pub none_told : (fault_in bs ≡ None) ↔ Accepted bs
   none_told = (there, back)
     where
-      there : fault_in bs ≡ none → Accepted bs
+      there : fault_in bs ≡ None → Accepted bs
       there h = elim (told bs) [ accepted a d e ↦ a | refused k f d e ↦ no_way (cc) ]
 
-      back : Accepted bs → fault_in bs ≡ none
+      back : Accepted bs → fault_in bs ≡ None
       back g = elim (told bs) [ accepted a d e ↦ d | refused k f d e ↦ absurd (f.refused g) ]
 
-  pub some_told : (k : ℕ) → (fault_in bs ≡ some k) ↔ Fault bs k
+  pub some_told : (k : ℕ) → (fault_in bs ≡ Some k) ↔ Fault bs k
   some_told k = (there, back)
     where
-      there : fault_in bs ≡ some k → Fault bs k
+      there : fault_in bs ≡ Some k → Fault bs k
       there h = elim (told bs) [ accepted a d e ↦ no_way (cc) | refused j f d e ↦ let z : j ≡ k = cc in rw z at f ]
 
-      back : Fault bs k → fault_in bs ≡ some k
+      back : Fault bs k → fault_in bs ≡ Some k
       back g =
           elim (told bs) [
             | accepted a d e ↦ absurd (g.refused a)
-            | refused j f d e ↦ d ∙ ap some (place_only f g)
+            | refused j f d e ↦ d ∙ ap Some (place_only f g)
           ]

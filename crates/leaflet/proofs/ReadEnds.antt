@@ -1,47 +1,34 @@
 -- Where the loop that reads a text into records ends: at a fault, at the text's end, or where there is no more room.
 -- Assumes nothing.
-use mathlib.Core.Path.{◌≡◌, refl, sym, ap, ◌∙◌}
-use Prim.Native.Nat.{ℕ, ◌≤◌, ◌<◌}
-use native.Mathlib.Omega.{arith}
-use mathlib.Core.Bool.{true, false}
-use mathlib.Core.List.{List, [], ◌++◌, append-nil}
-use mathlib.Core.Option.{none}
-use lib.ListN.{length, take, drop}
-use lib.Seq.{take_at, take_all, length-take-le}
+use Rattle.std.proofs.Common.{◌≡◌, sym, ap, ◌∙◌, ℕ, ◌-◌, arith, true, inl, inr}
+use Rattle.std.proofs.Common.{List, [], ◌++◌, append-nil, length, take, Err}
+use Rattle.std.proofs.Common.{None, Some}
+use Rattle.std.proofs.Math.Seq.{take_at, take_all, length-take-le}
 use Rattle.rules.specs.Records.{record_words}
-use Rattle.leaflet.specs.Items.{tag}
 use Rattle.leaflet.specs.Imported.{as_word}
-use Rattle.leaflet.specs.Decoding.{next}
-use Rattle.leaflet.specs.Spots.{Spot, outside, is_outside, step}
-use Rattle.leaflet.specs.Reader.{fault_from, fault_in, items_from, words_in}
-use Rattle.leaflet.specs.Written.{rt_ahead, due, written, room, rubied_to, RecordsIn}
-use Rattle.leaflet.specs.Enums.{tag_of, step_of, outcome_of, full_reading, FoundAt, Putting}
-use Rattle.leaflet.specs.Enums.{refused as refused_here, ReadAs, at_fault, in_words, full}
-use Rattle.leaflet.specs.declared.spots.Tag.{Tag as TagEnum}
-use Rattle.leaflet.specs.declared.spots.Step.{Step}
-use Rattle.leaflet.specs.declared.spots.Step.TheVariants.{Refused}
-use Rattle.leaflet.specs.declared.items.Found.{Found}
-use Rattle.leaflet.specs.declared.items.Found.TheVariants.{Nothing, Character, Markup}
-use Rattle.leaflet.specs.declared.reader.Outcome.{Outcome}
-use Rattle.leaflet.specs.declared.reader.Outcome.TheVariants.{Whole, Fault}
-use Rattle.leaflet.specs.declared.reader.Reading.{Reading}
-use Rattle.leaflet.specs.declared.reader.Reading.TheVariants.{Fault as FaultAt, Words}
-use Rattle.leaflet.specs.declared.records.Put.{Put}
-use Rattle.leaflet.specs.declared.records.Put.TheVariants.{Refused as PutRefused, Full}
-use Rattle.leaflet.proofs.Decisions.{some_none}
-use Rattle.leaflet.proofs.AcceptedOrFault.{outside_is, accepted, refused, told, items_spelt}
+use Rattle.leaflet.specs.Decoding.{nothing, found, next}
+use Rattle.leaflet.specs.Spots.{Spot, outside, is_outside}
+use Rattle.leaflet.specs.Reader.{ended, fault_in, items_from, words_in}
+use Rattle.leaflet.specs.Written.{rt_ahead, due, written, room, rubied_to}
+use Rattle.leaflet.specs.Enums.{item_of, spot_of, ReadsWords}
+use Rattle.leaflet.specs.Past.{Past, refused, full}
+use Rattle.leaflet.specs.declared.spots.Item.{Item as ItemEnum}
+use Rattle.leaflet.specs.declared.progress.Progress.{Progress}
+use Rattle.leaflet.specs.declared.progress.NotPassed.TheVariants.{Refused, Full}
+use Rattle.std.proofs.lemmas.Bool.{cases_Bool}
+use Rattle.std.proofs.lemmas.Option.{none-some}
+use Rattle.leaflet.proofs.AcceptedOrFault.{outside_is, accepted, refused as no_leaflet, told, items_spelt}
 use Rattle.leaflet.proofs.ReadAnswers.{words_told}
 use Rattle.leaflet.proofs.WrittenRecords.{written_spelt}
-use Rattle.leaflet.proofs.FaultSteps.{item_step_none, item_step_char, item_step_tag}
-use Rattle.leaflet.proofs.FaultFromLoop.{walked_fault, walked_whole, walked_open}
+use Rattle.leaflet.proofs.FaultSteps.{fault_at, fault_ended, fault_refused}
 use Rattle.leaflet.proofs.ItemsFrom.{items_end}
 use Rattle.leaflet.proofs.PutRuby.{length_rubied}
 use Rattle.leaflet.proofs.ReadHeld.{pending, none_open}
 use Rattle.leaflet.proofs.ReadHeldAhead.{held_ahead}
-use Rattle.leaflet.proofs.ReadLoop.{Loop, loop_base}
+use Rattle.leaflet.proofs.ReadLoop.{Loop, At}
 
 -- the words that the loop puts are those of the text's parts, where the text is accepted
-all_words : (size : ℕ) (bs : List ℕ) → fault_in bs ≡ none →
+all_words : (size : ℕ) (bs : List ℕ) → fault_in bs ≡ None →
     record_words (written size outside 0 0 (items_from bs)) ≡ words_in size bs
 all_words size bs h =
     elim (told bs) [
@@ -50,75 +37,61 @@ all_words size bs h =
           (ap (written size outside 0 0) (items_spelt a.spells)
           ∙ written_spelt size 0 0 a.content a.spells.proper)
           ∙ sym (words_told size a.spells)
-      | refused k f d e ↦ absurd (some_none (sym d ∙ h))
+      | no_leaflet k f d e ↦ absurd (none-some _ (sym h ∙ d))
     ]
 
-module _ {bs : List ℕ} {size : ℕ} {out : List ℕ} {at : ℕ} {q : Spot} {k n i g : ℕ}
-    (l : Loop bs size out at q k n i g) where
-  pub loop_nothing : {r : Found} {e : List ℕ} → FoundAt bs at (next (drop at bs)) r → at < length bs → r ≡ Nothing →
-      ReadAs bs size e (FaultAt at)
-  loop_nothing f h z = at_fault (sym (walked_fault l.walked (item_step_none h f z) refl))
+-- a text has ended only outside ruby elements
+ended_outside : (q : Spot) (k : ℕ) (bs : List ℕ) → ended q k bs ≡ None → is_outside q ≡ true
+ended_outside q k bs e =
+    elim (cases_Bool (is_outside q)) [ inl f ↦ f | inr f ↦ absurd (none-some _ (sym (rw f at e))) ]
 
-  character_refused : {r : Found} {e : List ℕ} (c w : ℕ) → FoundAt bs at (next (drop at bs)) r → at < length bs →
-      r ≡ Character c w → Putting out e i size q k c PutRefused → ReadAs bs size e (FaultAt at)
-  character_refused c w f h z (refused_here g) =
-      at_fault (sym (walked_fault l.walked (item_step_char h c w Refused f z (sym g) refl) refl))
+-- where no item goes on
+module _ {text : List ℕ} {size : ℕ} {out rest : List ℕ} {q : Spot} {k n i g : ℕ}
+    (l : Loop text size out rest q k n i g) where
+  pub loop_ended : nothing ≡ next rest → ended q (length text - length rest) rest ≡ fault_in text
+  loop_ended e = sym (fault_ended (length text) q rest (sym e)) ∙ l.walked
 
-  pub loop_refused : {r : Found} {e : List ℕ} {o : Put} (c w : ℕ) → FoundAt bs at (next (drop at bs)) r →
-      at < length bs → r ≡ Character c w → Putting out e i size q k c o → o ≡ PutRefused → ReadAs bs size e (FaultAt at)
-  loop_refused c w f h z a y = character_refused c w f h z (rw y at a)
-
-  pub loop_astray : {r : Found} {e : List ℕ} (v : TagEnum) (w : ℕ) {t : Step} → FoundAt bs at (next (drop at bs)) r →
-      at < length bs → r ≡ Markup v w → step_of t ≡ step q (tag (tag_of v)) → t ≡ Refused →
-      ReadAs bs size e (FaultAt at)
-  loop_astray v w f h z t y =
-      let g : none ≡ step q (tag (tag_of v)) = rw y at t in
-      at_fault (sym (walked_fault l.walked (item_step_tag h v w Refused f z g refl) refl))
-
-  pub loop_open : {e : List ℕ} → length bs ≤ at → is_outside q ≡ false → ReadAs bs size e (FaultAt at)
-  loop_open h o = at_fault (sym (walked_open h o l.walked))
-
-  pub loop_end : length bs ≤ at → is_outside q ≡ true → ReadAs bs size out (Words i)
+  pub loop_end : nothing ≡ next rest → ended q (length text - length rest) rest ≡ None → ReadsWords text size out i
   unfolding written record_words
-  loop_end h o =
-      let well = sym (walked_whole h o l.walked) in
-      let d = due q n (items_from (drop at bs)) in
-      let none_left : items_from (drop at bs) ≡ [] = items_end bs at h l.walked.inside in
-      let whole : take i out ≡ words_in size bs
+  loop_end e z =
+      let o = ended_outside q _ rest z in
+      let well = sym (loop_ended e) ∙ z in
+      let d = due q n (items_from rest) in
+      let none_left : items_from rest ≡ [] = items_end rest (sym e) in
+      let whole : take i out ≡ words_in size text
       = sym (append-nil (take i out))
       ∙ ap (λ is. take i out ++ record_words (written size q k d is)) (sym none_left)
-      ∙ none_open l.held (ap pending (outside_is q o)) ∙ all_words size bs well in
+      ∙ none_open l.held (ap pending (outside_is q o)) ∙ all_words size text well in
       let few = length-take-le i out (omega (arith, l.long, l.fits)) in
-      in_words {n = i} well l.fits
-      (whole ∙ sym (take_all room (words_in size bs) (rw (← whole) (omega (arith, few, l.fits)))))
+      record {
+        accepted = well;
+        fits = l.fits;
+        same = whole ∙ sym (take_all room (words_in size text) (rw (← whole) (omega (arith, few, l.fits))));
+      }
+
+-- where an item is not passed
+module _ {text : List ℕ} {size : ℕ} {out rest : List ℕ} (a : Progress) (l : At text size out rest a) where
+  pub loop_refused : (i : ItemEnum) (ds : List ℕ) {e : List ℕ} → found (item_of i) ds ≡ next rest →
+      Past size out e a i (Err Refused) → fault_in text ≡ Some (length text - length rest)
+  loop_refused i ds f (refused e) = sym l.walked ∙ fault_refused (length text) (spot_of a.spot) rest (sym f) e
 
   -- where there is no more room, the words are those of 257 records: a group that is open gets its ruby count from what
   -- is ahead
-  character_full : {d e : List ℕ} (c : ℕ) (o : Outcome) → Putting out d i size q k c Full →
-      e ≡ rubied_to g i (as_word (rt_ahead (items_from (drop at bs)))) d →
-      outcome_of o ≡ fault_from q at (drop at bs) → ReadAs bs size e (full_reading o i)
-  character_full c (Fault p) (full w z x) r f = at_fault (sym (f ∙ l.walked.same))
-  character_full {e = e} c Whole (full w z x) r f =
-      let well = sym (f ∙ l.walked.same) in
-      let all : i ≡ room = omega (arith, l.fits, l.whole_records, x) in
-      let a = held_ahead q l.held (omega (arith, l.long, l.fits)) w in
-      let same : e ≡ rubied_to g i (as_word (rt_ahead (items_from (drop at bs)))) out = r ∙ rw z in
-      let whole : take i e ++ a.later ≡ words_in size bs
-      = ap (λ v. take i v ++ a.later) same ∙ a.whole ∙ all_words size bs well in
+  pub loop_full : (i : ItemEnum) (m : ℕ) {d e : List ℕ} → Past size out d a i (Err Full) →
+      m ≡ rt_ahead (items_from rest) → e ≡ rubied_to a.start a.end (as_word m) d →
+      fault_at (length text) (spot_of a.spot) rest ≡ None → ReadsWords text size e a.end
+  loop_full i m {e = e} (full b z x) e₁ r f =
+      let well = sym l.walked ∙ f in
+      let all : a.end ≡ room = omega (arith, l.fits, l.whole, x) in
+      let h = held_ahead (spot_of a.spot) l.held (omega (arith, l.long, l.fits)) b in
+      let same : e ≡ rubied_to a.start a.end (as_word (rt_ahead (items_from rest))) out = rw (← e₁) (r ∙ rw z) in
+      let whole : take a.end e ++ h.later ≡ words_in size text
+      = ap (λ v. take a.end v ++ h.later) same ∙ h.whole ∙ all_words size text well in
       let long : length e ≡ room = ap length same ∙ length_rubied _ _ _ out ∙ l.long in
-      in_words {n = i} well l.fits
-      (sym (ap (take room) (sym whole)
-      ∙ take_at (take i e) a.later room (length-take-le i e (omega (arith, long, l.fits)) ∙ all)))
-
-  pub loop_full : {d e : List ℕ} (c : ℕ) {o : Put} (t : Outcome) {m w : ℕ} {x : Reading} →
-      Putting out d i size q k c o → o ≡ Full → m ≡ rt_ahead (items_from (drop at bs)) → w ≡ as_word m →
-      e ≡ rubied_to g i w d → outcome_of t ≡ fault_from q at (drop at bs) → x ≡ full_reading t i →
-      ReadAs bs size e x
-  loop_full c t a y e₁ e₂ r f z = rw z (character_full c t (rw y at a) (rw (← e₁, ← e₂) r) f)
-
-  -- the words that get it are there
-  full_room : {d : List ℕ} (c : ℕ) → Putting out d i size q k c Full → RecordsIn d g i
-  full_room c (full w z x) = rw z (loop_base l)
-
-  pub loop_full_room : {d : List ℕ} (c : ℕ) {o : Put} → Putting out d i size q k c o → o ≡ Full → RecordsIn d g i
-  loop_full_room c a y = full_room c (rw y at a)
+      record {
+        accepted = well;
+        fits = l.fits;
+        same =
+            sym (ap (take room) (sym whole)
+            ∙ take_at (take a.end e) h.later room (length-take-le a.end e (omega (arith, long, l.fits)) ∙ all));
+      }

@@ -1,12 +1,7 @@
 -- What the loop that reads a text holds: the words of the records up to a group whose rt has not ended, those of its
 -- base, still without their ruby count, and what is left of the text; and what follows at any spot. Assumes nothing.
-use mathlib.Core.Path.{◌≡◌, sym, ap, ◌∙◌}
-use Prim.Native.Nat.{ℕ, ◌+◌, ◌-◌, ◌*◌, ◌/◌, ◌≤◌}
-use native.Mathlib.Omega.{arith}
-use mathlib.Core.Bool.{Bool, true, false}
-use mathlib.Core.List.{List, [], ◌++◌, map, append_assoc, append-nil}
-use lib.ListN.{length, take}
-use lib.Seq.{length-take-le}
+use Rattle.std.proofs.Common.{◌≡◌, sym, ap, ◌∙◌, ℕ, ◌+◌, ◌-◌, ◌*◌, ◌/◌, ◌≤◌, arith, Bool, true, false, List, [], ◌++◌}
+use Rattle.std.proofs.Common.{map, append_assoc, append-nil, length, take, length-take-le}
 use Rattle.rules.specs.Layout.{record_length}
 use Rattle.rules.specs.Records.{Rec, record_words}
 use Rattle.leaflet.specs.Items.{Item}

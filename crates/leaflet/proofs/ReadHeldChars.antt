@@ -1,12 +1,9 @@
 -- What the loop that reads a text holds, kept by a turn at a character. Assumes nothing.
-use mathlib.Core.Path.{◌≡◌, refl, sym, ap, ◌∙◌}
-use Prim.Native.Nat.{ℕ, suc, ◌+◌, ◌≤◌}
-use native.Mathlib.Nat.{add-zero}
-use native.Mathlib.Omega.{arith}
-use mathlib.Core.Bool.{true, false, cond}
-use mathlib.Core.List.{List, [], ◌∷◌, ◌++◌, map, map-append, append_assoc, append-nil}
-use lib.ListN.{length, take, length-append}
-use lib.Seq.{paste}
+use Rattle.std.proofs.Common.{◌≡◌, refl, sym, ap, ◌∙◌, ℕ, suc, ◌+◌, ◌≤◌, add-zero, arith, true, false, cond, List, []}
+use Rattle.std.proofs.Common.{◌∷◌, ◌++◌, map, append_assoc, append-nil, length, take, length-append}
+use Rattle.std.proofs.Math.Seq.{paste}
+use Rattle.std.proofs.lemmas.List.Edits.{paste_none}
+use mathlib.Core.List.{map-append}
 use Rattle.rules.specs.Layout.{record_length}
 use Rattle.rules.specs.Records.{Rec, record_words}
 use Rattle.leaflet.specs.Items.{Item, char}
@@ -14,11 +11,11 @@ use Rattle.leaflet.specs.Imported.{as_word, record_of}
 use Rattle.leaflet.specs.Spots.{Spot, outside, in_base, is_outside, becomes_record}
 use Rattle.leaflet.specs.Written.{chars_before_tag, rt_ahead, in_rt, due, kept, written}
 use Rattle.leaflet.specs.Enums.{words_of}
-use Rattle.leaflet.proofs.Decisions.{true_false}
+use Rattle.std.proofs.lemmas.Bool.{true≢false}
 use Rattle.leaflet.proofs.SpotMoves.{Move, single_char, first_base, more_base, first_bare, more_bare, more_first}
 use Rattle.leaflet.proofs.SpotMoves.{first_fenced, more_fenced, more_last}
 use Rattle.leaflet.proofs.WrittenRecords.{written_char}
-use Rattle.leaflet.proofs.PutWords.{put_there, put_before, put_nothing, words_append}
+use Rattle.leaflet.proofs.PutWords.{put_there, put_before, words_append}
 use Rattle.leaflet.proofs.ReadHeld.{pending, before_rt, Held, none_open, passing}
 
 module _ {s : ℕ} {all out : List ℕ} where
@@ -48,7 +45,7 @@ module _ {s : ℕ} {all out : List ℕ} where
         record {
           base = b ++ (c ∷ []);
           reached = omega (arith, e₁, six, h.reached, length-append b (c ∷ []));
-          settled = λ x. absurd (true_false x);
+          settled = λ x. absurd (true≢false x);
           fresh = λ x. h.fresh none_yet;
           there =
               ap (λ m. take m e) e₁ ∙ ap (take (i + length ws)) e₂ ∙ put_there out ws i room
@@ -81,7 +78,7 @@ module _ {s : ℕ} {all out : List ℕ} where
         base = [];
         reached = omega arith;
         settled = λ x. refl;
-        fresh = λ x. absurd (true_false (sym x));
+        fresh = λ x. absurd (true≢false (sym x));
         there = sym (append-nil (take j e));
         whole =
             ap (λ v. v ++ record_words W) now_there ∙ append_assoc (take i out) ws (record_words W)
@@ -99,7 +96,7 @@ module _ {s : ℕ} {all out : List ℕ} where
     unkept =
         let f₁ : j ≡ i + 0 = rw w at e₁ in
         let f₂ : e ≡ paste out i [] 0 = rw w at e₂ in
-        rw (f₁ ∙ add-zero i, put_nothing out i f₂)
+        rw (f₁ ∙ add-zero i, f₂ ∙ sym (paste_none out i []))
         (passing h same (written_char s k _ is x ∙ rw w) settles freshens)
 
   -- a turn at a character
@@ -114,16 +111,16 @@ module _ {s : ℕ} {all out : List ℕ} where
   held_char {k = k} {is = is} (more_base x) h e₁ e₂ r =
       more_in_base h refl refl (written_char s k (rt_ahead is) is (more_base x)) refl e₁ e₂ r
   held_char (first_bare x) h e₁ e₂ r =
-      unkept (first_bare x) refl h e₁ e₂ (omega arith) (λ y. absurd (true_false y)) (λ y. absurd (true_false (sym y)))
+      unkept (first_bare x) refl h e₁ e₂ (omega arith) (λ y. absurd (true≢false y)) (λ y. absurd (true≢false (sym y)))
   held_char (more_bare x) h e₁ e₂ r =
-      unkept (more_bare x) refl h e₁ e₂ (omega arith) (λ y. absurd (true_false y)) (λ y. absurd (true_false (sym y)))
+      unkept (more_bare x) refl h e₁ e₂ (omega arith) (λ y. absurd (true≢false y)) (λ y. absurd (true≢false (sym y)))
   held_char (more_first x) h e₁ e₂ r =
-      unkept (more_first x) refl h e₁ e₂ refl (λ y. absurd (true_false y)) (λ y. h.fresh refl)
+      unkept (more_first x) refl h e₁ e₂ refl (λ y. absurd (true≢false y)) (λ y. h.fresh refl)
   held_char (first_fenced x) h e₁ e₂ r =
-      unkept (first_fenced x) refl h e₁ e₂ (omega arith) (λ y. absurd (true_false y))
-      (λ y. absurd (true_false (sym y)))
+      unkept (first_fenced x) refl h e₁ e₂ (omega arith) (λ y. absurd (true≢false y))
+      (λ y. absurd (true≢false (sym y)))
   held_char (more_fenced x) h e₁ e₂ r =
-      unkept (more_fenced x) refl h e₁ e₂ (omega arith) (λ y. absurd (true_false y))
-      (λ y. absurd (true_false (sym y)))
+      unkept (more_fenced x) refl h e₁ e₂ (omega arith) (λ y. absurd (true≢false y))
+      (λ y. absurd (true≢false (sym y)))
   held_char (more_last x) h e₁ e₂ r =
-      unkept (more_last x) refl h e₁ e₂ refl (λ y. refl) (λ y. absurd (true_false (sym y)))
+      unkept (more_last x) refl h e₁ e₂ refl (λ y. refl) (λ y. absurd (true≢false (sym y)))

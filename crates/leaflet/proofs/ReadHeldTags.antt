@@ -1,17 +1,12 @@
 -- What the loop that reads a text holds, kept by a turn at a tag. Assumes nothing.
-use mathlib.Core.Path.{◌≡◌, refl, sym, ap, ◌∙◌}
-use Prim.Native.Nat.{ℕ, suc, ◌≤◌}
-use native.Mathlib.Nat.{add-zero}
-use native.Mathlib.Omega.{arith}
-use mathlib.Core.Bool.{false}
-use mathlib.Core.List.{List, [], ◌∷◌, ◌++◌, map, append-nil}
-use lib.ListN.{length, take}
+use Rattle.std.proofs.Common.{◌≡◌, refl, sym, ap, ◌∙◌, ℕ, suc, ◌≤◌, add-zero, arith, false, List, [], ◌∷◌, ◌++◌, map}
+use Rattle.std.proofs.Common.{append-nil, length, take}
 use Rattle.rules.specs.Records.{record_words}
 use Rattle.leaflet.specs.Items.{Item, tag, Tag}
 use Rattle.leaflet.specs.Imported.{as_word, record_of}
 use Rattle.leaflet.specs.Spots.{Spot, outside, opened, bare_opened, fenced_opened}
 use Rattle.leaflet.specs.Written.{chars_before_tag, rt_ahead, if_ruby, if_rt_end, due, written, rubied_to}
-use Rattle.leaflet.proofs.Decisions.{true_false}
+use Rattle.std.proofs.lemmas.Bool.{true≢false}
 use Rattle.leaflet.proofs.SpotMoves.{Move, open_ruby, open_bare, end_bare, open_first, end_first, open_fenced}
 use Rattle.leaflet.proofs.SpotMoves.{end_fenced, open_last, end_last, close}
 use Rattle.leaflet.proofs.WrittenRecords.{written_tag}
@@ -28,7 +23,7 @@ module _ {s : ℕ} {all out : List ℕ} where
       record {
         base = [];
         reached = omega (arith, upto);
-        settled = λ x. absurd (true_false x);
+        settled = λ x. absurd (true≢false x);
         fresh = λ x. refl;
         there = h.there ∙ ap (λ b. take g out ++ record_words (map (record_of s (as_word k) 0) b)) z;
         whole =
@@ -50,7 +45,7 @@ module _ {s : ℕ} {all out : List ℕ} where
           base = [];
           reached = omega arith;
           settled = λ x. refl;
-          fresh = λ x. absurd (true_false (sym x ∙ freshens));
+          fresh = λ x. absurd (true≢false (sym x ∙ freshens));
           there = sym (append-nil (take i e));
           whole =
               ap (λ d. take i e ++ record_words (written s p k d is)) after
@@ -66,21 +61,21 @@ module _ {s : ℕ} {all out : List ℕ} where
   held_tag open_ruby h f = opening h
   held_tag {k = k} {n = n} {is = is} open_bare h f =
       passing {p = bare_opened} {m = n} {js = is} h (omega (arith, h.fresh refl)) (written_tag s k _ is open_bare)
-      (λ y. absurd (true_false y)) (λ y. absurd (true_false (sym y)))
+      (λ y. absurd (true≢false y)) (λ y. absurd (true≢false (sym y)))
   held_tag {k = k} {n = n} {is = is} end_bare h f =
       rt_ended h (add-zero n) refl (written_tag s k n is end_bare) f refl
   held_tag {k = k} {is = is} open_first h f =
-      passing h refl (written_tag s k _ is open_first) (λ y. absurd (true_false y)) (λ y. h.fresh refl)
+      passing h refl (written_tag s k _ is open_first) (λ y. absurd (true≢false y)) (λ y. h.fresh refl)
   held_tag {k = k} {is = is} end_first h f =
-      passing h refl (written_tag s k _ is end_first) (λ y. absurd (true_false y)) (λ y. h.fresh refl)
+      passing h refl (written_tag s k _ is end_first) (λ y. absurd (true≢false y)) (λ y. h.fresh refl)
   held_tag {k = k} {n = n} {is = is} open_fenced h f =
       passing {p = fenced_opened} {m = n} {js = is} h (omega (arith, h.fresh refl)) (written_tag s k _ is open_fenced)
-      (λ y. absurd (true_false y)) (λ y. absurd (true_false (sym y)))
+      (λ y. absurd (true≢false y)) (λ y. absurd (true≢false (sym y)))
   held_tag {k = k} {n = n} {is = is} end_fenced h f =
       rt_ended h (add-zero n) refl (written_tag s k n is end_fenced) f refl
   held_tag {k = k} {is = is} open_last h f =
-      passing h refl (written_tag s k _ is open_last) (λ y. refl) (λ y. absurd (true_false (sym y)))
+      passing h refl (written_tag s k _ is open_last) (λ y. refl) (λ y. absurd (true≢false (sym y)))
   held_tag {k = k} {is = is} end_last h f =
-      passing h refl (written_tag s k _ is end_last) (λ y. refl) (λ y. absurd (true_false (sym y)))
+      passing h refl (written_tag s k _ is end_last) (λ y. refl) (λ y. absurd (true≢false (sym y)))
   held_tag {k = k} {is = is} close h f =
-      passing h refl (written_tag s k _ is close) (λ y. refl) (λ y. absurd (true_false (sym y)))
+      passing h refl (written_tag s k _ is close) (λ y. refl) (λ y. absurd (true≢false (sym y)))

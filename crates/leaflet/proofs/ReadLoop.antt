@@ -1,152 +1,146 @@
 -- The loop that reads a text into records, as steps: what it starts with, and a turn at a character and at a tag.
 -- Assumes nothing.
-use mathlib.Core.Path.{◌≡◌, refl, sym, ap, ◌∙◌}
-use Prim.Native.Nat.{ℕ, suc, ◌+◌, ◌%◌, ◌≤◌, ◌<◌}
-use native.Mathlib.Omega.{arith}
-use mathlib.Core.Bool.{Bool, true, false, cond}
-use mathlib.Core.List.{List, []}
-use mathlib.Core.Logic.{inl, inr}
-use mathlib.Core.Option.{some}
-use lib.ListN.{length, drop}
-use lib.Seq.{length-paste}
+use Rattle.std.proofs.Common.{◌≡◌, refl, sym, ◌∙◌, ℕ, suc, ◌+◌, ◌-◌, ◌%◌, ◌≤◌, ◌<◌, arith, Bool, true, false, cond}
+use Rattle.std.proofs.Common.{List, [], length, Ok}
+use Rattle.std.proofs.Common.{Some}
+use Rattle.std.proofs.Math.Seq.{length-paste}
 use Rattle.rules.specs.Layout.{record_length}
 use Rattle.rules.specs.Records.{record_words}
 use Rattle.leaflet.specs.Items.{char, tag, Tag}
 use Rattle.leaflet.specs.Imported.{as_word}
-use Rattle.leaflet.specs.Decoding.{next}
-use Rattle.leaflet.specs.Spots.{Spot, outside, becomes_record, is_outside, char_step, step}
+use Rattle.leaflet.specs.Decoding.{found, next}
+use Rattle.leaflet.specs.Spots.{Spot, outside, step}
 use Rattle.leaflet.specs.Reader.{fault_in, items_from}
-use Rattle.leaflet.specs.Written.{toward, if_ruby, if_rt_end, in_rt, kept, written, room, rubied_to, RecordsIn}
-use Rattle.leaflet.specs.Enums.{tag_of, spot_of, step_of, words_of, FoundAt, Putting, put}
+use Rattle.leaflet.specs.Written.{if_ruby, if_rt_end, in_rt, written, room}
+use Rattle.leaflet.specs.Enums.{tag_of, item_of, spot_of, words_of, Putting, put}
+use Rattle.leaflet.specs.Past.{CharacterPassed, TagPassed, Past, character, markup}
 use Rattle.leaflet.specs.declared.spots.Tag.{Tag as TagEnum}
-use Rattle.leaflet.specs.declared.spots.Spot.{Spot as SpotEnum}
-use Rattle.leaflet.specs.declared.spots.Step.{Step}
-use Rattle.leaflet.specs.declared.spots.Step.TheVariants.{To}
-use Rattle.leaflet.specs.declared.items.Found.{Found}
-use Rattle.leaflet.specs.declared.items.Found.TheVariants.{Character, Markup}
-use Rattle.leaflet.specs.declared.records.Put.{Put}
-use Rattle.leaflet.specs.declared.records.Put.TheVariants.{Next as NextAt}
-use Rattle.leaflet.proofs.Decisions.{tested}
-use Rattle.leaflet.proofs.FaultSteps.{item_step_char, item_step_tag}
-use Rattle.leaflet.proofs.FaultFromLoop.{Walked, walked_start, walked_more}
-use Rattle.leaflet.proofs.ItemsFrom.{at_char, at_tag, next_offset_char, next_offset_tag}
+use Rattle.leaflet.specs.declared.spots.Item.{Item as ItemEnum}
+use Rattle.leaflet.specs.declared.spots.Item.TheVariants.{Character, Markup}
+use Rattle.leaflet.specs.declared.progress.Progress.{Progress}
+use Rattle.leaflet.proofs.FaultSteps.{fault_at, fault_past}
+use Rattle.leaflet.proofs.ItemsFrom.{items_next}
 use Rattle.leaflet.proofs.SpotMoves.{step_move}
-use Rattle.leaflet.proofs.TagNumbers.{ruby_either, rt_end_either}
 use Rattle.leaflet.proofs.PutRuby.{length_rubied}
 use Rattle.leaflet.proofs.ReadHeld.{Held}
 use Rattle.leaflet.proofs.ReadHeldChars.{held_char}
 use Rattle.leaflet.proofs.ReadHeldTags.{held_tag}
 
--- the loop at an offset and a spot: k groups are begun, the last has had n ruby characters, i words are put, and those
--- before g have their ruby counts
-pub record Loop (bs : List ℕ) (size : ℕ) (out : List ℕ) (at : ℕ) (q : Spot) (k n i g : ℕ) : Type 0 where
-  pub walked : Walked bs (fault_in bs) at q
-  pub begun : k ≤ at
-  pub counted : n ≤ at
+-- the loop where `rest` is left, at a spot: k groups are begun, the last has had n ruby characters, i words are put,
+-- and those before g have their ruby counts
+pub record Loop (text : List ℕ) (size : ℕ) (out rest : List ℕ) (q : Spot) (k n i g : ℕ) : Type 0 where
+  pub walked : fault_at (length text) q rest ≡ fault_in text
+  pub begun : k + length rest ≤ length text
+  pub counted : n + length rest ≤ length text
   pub long : length out ≡ room
   pub fits : i ≤ room
-  pub whole_records : i % record_length ≡ 0
-  pub held : Held size (record_words (written size outside 0 0 (items_from bs))) out q k n g i (items_from (drop at bs))
+  pub ordered : g ≤ i
+  pub whole : i % record_length ≡ 0
+  pub whole_before : g % record_length ≡ 0
+  pub held : Held size (record_words (written size outside 0 0 (items_from text))) out q k n g i (items_from rest)
 
--- a tag begins one group at most
+-- where a reader has got to
+abbrev pub At : (text : List ℕ) (size : ℕ) (out rest : List ℕ) → Progress → Type 0
+At text size out rest a = Loop text size out rest (spot_of a.spot) a.groups a.ruby a.end a.start
+
+-- a tag begins one group at most, and a character is one ruby character at most
 if_ruby_few : (t : Tag) (k : ℕ) → if_ruby t (suc k) k ≤ suc k
-if_ruby_few t k = ruby_either (λ j. j ≤ suc k) (omega arith) (omega arith) t
+if_ruby_few Tag.ruby k = omega arith
+if_ruby_few Tag.ruby_end k = omega arith
+if_ruby_few Tag.rt k = omega arith
+if_ruby_few Tag.rt_end k = omega arith
+if_ruby_few Tag.rp k = omega arith
+if_ruby_few Tag.rp_end k = omega arith
 
 if_ruby_none : (t : Tag) (n : ℕ) → if_ruby t 0 n ≤ n
-if_ruby_none t n = ruby_either (λ j. j ≤ n) (omega arith) (omega arith) t
+if_ruby_none Tag.ruby n = omega arith
+if_ruby_none Tag.ruby_end n = omega arith
+if_ruby_none Tag.rt n = omega arith
+if_ruby_none Tag.rt_end n = omega arith
+if_ruby_none Tag.rp n = omega arith
+if_ruby_none Tag.rp_end n = omega arith
 
--- a character is one ruby character at most
 counted_few : (b : Bool) (n : ℕ) → cond b (suc n) n ≤ suc n
 counted_few true n = omega arith
 counted_few false n = omega arith
 
 -- words that get their ruby counts, or not, are as many
 length_settled : (t : Tag) (ws vs : List ℕ) → length vs ≡ length ws → length (if_rt_end t vs ws) ≡ length ws
-length_settled t ws vs e = rt_end_either (λ us. length us ≡ length ws) e refl t
+length_settled Tag.ruby ws vs e = refl
+length_settled Tag.ruby_end ws vs e = refl
+length_settled Tag.rt ws vs e = refl
+length_settled Tag.rt_end ws vs e = e
+length_settled Tag.rp ws vs e = refl
+length_settled Tag.rp_end ws vs e = refl
 
--- a record is six words, or none
-words_whole : (size : ℕ) (q : Spot) (k c : ℕ) → length (words_of size q k c) % record_length ≡ 0
-unfolding words_of kept record_words
-words_whole size q k c = elim (tested (becomes_record q)) [ inl e ↦ rw e | inr e ↦ rw e ]
+pub loop_start : (text : List ℕ) (size : ℕ) {out : List ℕ} → length out ≡ room →
+    Loop text size out text outside 0 0 0 0
+unfolding record_words fault_in
+loop_start text size e =
+    let none : length text - length text ≡ 0 = omega arith in
+    record {
+      walked = rw none;
+      begun = omega arith;
+      counted = omega arith;
+      long = e;
+      fits = omega arith;
+      ordered = omega arith;
+      whole = refl;
+      whole_before = refl;
+      held =
+          record {
+            base = [];
+            reached = refl;
+            settled = λ x. refl;
+            fresh = λ x. refl;
+            there = refl;
+            whole = refl;
+          };
+    }
 
-module _ {bs : List ℕ} {size : ℕ} where
-  pub loop_start : {out : List ℕ} → length out ≡ room → Loop bs size out 0 outside 0 0 0 0
-  unfolding record_words
-  loop_start e =
+module _ {text : List ℕ} {size : ℕ} {out rest : List ℕ} (a : Progress) (l : At text size out rest a) where
+  past_char : (c : ℕ) (ds : List ℕ) {e : List ℕ} {b : Progress} → found (char c) ds ≡ next rest →
+      length ds < length rest → CharacterPassed size out e a c b →
+      Putting out e a.end size (spot_of a.spot) a.groups c (Ok b.end) → At text size e ds b
+  unfolding step
+  past_char c ds {b = b} f s h (put v e₁ e₂ r) =
+      let q = spot_of a.spot in
+      let there : step q (char c) ≡ Some (spot_of b.spot) = rw (step, v) h.leads in
+      let few = counted_few (in_rt q) a.ruby in
+      let ws = words_of size q a.groups c in
+      let turn = held_char (step_move there) (rw (items_next rest (char c) ds (sym f)) at l.held) e₁ e₂
+      (omega (arith, l.long, r)) in
       record {
-        walked = walked_start;
-        begun = omega arith;
-        counted = omega arith;
-        long = e;
-        fits = omega arith;
-        whole_records = refl;
-        held =
-            record {
-              base = [];
-              reached = refl;
-              settled = λ x. refl;
-              fresh = λ x. refl;
-              there = refl;
-              whole = refl;
-            };
+        walked = sym (fault_past (length text) q rest (sym f) there (omega (arith, l.begun))) ∙ l.walked;
+        begun = omega (arith, l.begun, h.groups);
+        counted = omega (arith, l.counted, few, h.ruby);
+        long = rw e₂ (length-paste out a.end ws (length ws) (omega (arith, l.long, r)) (omega arith)) ∙ l.long;
+        fits = b.room;
+        ordered = b.order;
+        whole = b.whole;
+        whole_before = b.whole_before;
+        held = rw (h.ruby, h.start, h.groups) turn;
       }
 
-  module _ {out : List ℕ} {at : ℕ} {q : Spot} {k n i g : ℕ} (l : Loop bs size out at q k n i g) where
-    -- whole records are without a ruby count
-    pub loop_base : RecordsIn out g i
-    loop_base =
-        let r = l.held.reached in
-        record { ordered = omega (arith, r); fits = omega (arith, l.fits, l.long); whole = omega (arith, r) }
+  past_tag : (t : TagEnum) (ds : List ℕ) {e : List ℕ} {b : Progress} → found (tag (tag_of t)) ds ≡ next rest →
+      length ds < length rest → TagPassed out e a t b → At text size e ds b
+  past_tag t ds {b = b} f s h =
+      let turn = held_tag (step_move h.leads) (rw (items_next rest (tag (tag_of t)) ds (sym f)) at l.held)
+      (omega (arith, l.fits, l.long)) in
+      record {
+        walked =
+            sym (fault_past (length text) (spot_of a.spot) rest (sym f) h.leads (omega (arith, l.begun))) ∙ l.walked;
+        begun = omega (arith, l.begun, if_ruby_few (tag_of t) a.groups, h.groups);
+        counted = omega (arith, l.counted, if_ruby_none (tag_of t) a.ruby, h.ruby);
+        long = rw h.words (length_settled (tag_of t) out _ (length_rubied _ a.start (as_word a.ruby) out)) ∙ l.long;
+        fits = b.room;
+        ordered = b.order;
+        whole = b.whole;
+        whole_before = b.whole_before;
+        held = rw (h.groups, h.ruby, h.words, h.start, h.end) turn;
+      }
 
-    -- past a character
-    character_put : {r : Found} (c w : ℕ) {e : List ℕ} (j : ℕ) (p : SpotEnum) (m h : ℕ) →
-        FoundAt bs at (next (drop at bs)) r → at < length bs → r ≡ Character c w → spot_of p ≡ toward (char_step q) →
-        m ≡ cond (in_rt q) (suc n) n → h ≡ cond (is_outside q) j g →
-        Putting out e i size q k c (NextAt j) → Loop bs size e (at + w) (spot_of p) k m j h
-    character_put c w j p m h f z x y e₃ e₄ (put v e₁ e₂ r) =
-        let past = next_offset_char f c w z x in
-        let there : some (spot_of p) ≡ step q (char c) = ap some y ∙ sym v in
-        let a = item_step_char z c w (To p) f x there refl in
-        let turn = held_char (step_move (sym there)) (rw (at_char f c w x) at l.held) e₁ e₂
-        (omega (arith, l.long, r)) in
-        let few = counted_few (in_rt q) n in
-        let ws = words_of size q k c in
-        record {
-          walked = walked_more p w l.walked a refl;
-          begun = omega (arith, l.begun);
-          counted = omega (arith, l.counted, few, e₃, past);
-          long =
-              rw e₂ (length-paste out i ws (length ws) (omega (arith, l.long, r)) (omega arith)) ∙ l.long;
-          fits = omega (arith, e₁, r);
-          whole_records = omega (arith, e₁, l.whole_records, words_whole size q k c);
-          held = rw (e₃, e₄) turn;
-        }
-
-    pub loop_character : {r : Found} (c w : ℕ) {e : List ℕ} {o : Put} (j : ℕ) (p : SpotEnum) (m h : ℕ) →
-        FoundAt bs at (next (drop at bs)) r → at < length bs → r ≡ Character c w → spot_of p ≡ toward (char_step q) →
-        m ≡ cond (in_rt q) (suc n) n → h ≡ cond (is_outside q) j g →
-        Putting out e i size q k c o → o ≡ NextAt j → Loop bs size e (at + w) (spot_of p) k m j h
-    loop_character c w j p m h f z x y e₃ e₄ a v = character_put c w j p m h f z x y e₃ e₄ (rw v at a)
-
-    -- past a tag
-    pub loop_tag : {r : Found} (v : TagEnum) (w : ℕ) {t : Step} (p : SpotEnum) {e : List ℕ} (k' n' g' : ℕ) →
-        FoundAt bs at (next (drop at bs)) r → at < length bs → r ≡ Markup v w →
-        step_of t ≡ step q (tag (tag_of v)) → t ≡ To p → k' ≡ if_ruby (tag_of v) (suc k) k →
-        n' ≡ if_ruby (tag_of v) 0 n →
-        e ≡ if_rt_end (tag_of v) (rubied_to g i (as_word n) out) out → g' ≡ if_rt_end (tag_of v) i g →
-        Loop bs size e (at + w) (spot_of p) k' n' i g'
-    loop_tag v w p k' n' g' f h z t y e₁ e₂ e₃ e₄ =
-        let there : some (spot_of p) ≡ step q (tag (tag_of v)) = rw y at t in
-        let past = next_offset_tag f v w h z in
-        let a = item_step_tag h v w (To p) f z there refl in
-        let turn = held_tag (step_move (sym there)) (rw (at_tag f v w z) at l.held)
-        (omega (arith, l.fits, l.long)) in
-        record {
-          walked = walked_more p w l.walked a refl;
-          begun = omega (arith, l.begun, if_ruby_few (tag_of v) k, e₁, past);
-          counted = omega (arith, l.counted, if_ruby_none (tag_of v) n, e₂, past);
-          long = rw e₃ (length_settled (tag_of v) out _ (length_rubied _ g (as_word n) out)) ∙ l.long;
-          fits = l.fits;
-          whole_records = l.whole_records;
-          held = rw (e₁, e₂, e₃, e₄) turn;
-        }
+  pub loop_past : (i : ItemEnum) (ds : List ℕ) {e : List ℕ} {b : Progress} → found (item_of i) ds ≡ next rest →
+      length ds < length rest → Past size out e a i (Ok b) → At text size e ds b
+  loop_past (Character c) ds f s (character h) = past_char c ds f s h h.put
+  loop_past (Markup t) ds f s (markup h) = past_tag t ds f s h

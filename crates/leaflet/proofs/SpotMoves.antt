@@ -1,18 +1,12 @@
 -- The reader's steps, one by one: a constructor to a row of `Spots`. Assumes nothing.
-use mathlib.Core.Path.{◌≡◌, refl, ap, sym, ◌∙◌}
-use Prim.Native.Nat.{ℕ}
-use mathlib.Core.Bool.{true, cond}
-use mathlib.Core.List.{List, [], ◌∷◌}
-use mathlib.Core.Logic.{inl, inr}
-use mathlib.Core.Option.{Option, none, some}
-use lib.Dec.{eqb}
-use borrow.Author.Tests.{eqb-true}
+use Rattle.std.proofs.Common.{◌≡◌, refl, ap, sym, ◌∙◌, ℕ, true, cond, List, [], ◌∷◌, inl, inr, Option, None, Some}
+use Rattle.std.proofs.Common.{eqb, eqb-true}
 use Rattle.leaflet.specs.Items.{Item, char, tag, Tag}
 use Rattle.leaflet.specs.Contents.{text_char, plain_char}
 use Rattle.leaflet.specs.Spots.{Spot, outside, opened, in_base, bare_opened, in_bare, in_first, rt_due}
 use Rattle.leaflet.specs.Spots.{fenced_opened, in_fenced, rp_due, in_last, closing}
 use Rattle.leaflet.specs.Spots.{char_step, allowed, tags, tag_number, find, step}
-use Rattle.leaflet.proofs.Decisions.{tested}
+use Rattle.std.proofs.lemmas.Bool.{cases_Bool}
 
 pub data Move : Spot → Item → Spot → Type 0 where
   single_char : {c : ℕ} → plain_char c ≡ true → Move outside (char c) outside
@@ -35,7 +29,7 @@ pub data Move : Spot → Item → Spot → Type 0 where
   end_last : Move in_last (tag Tag.rp_end) closing
   close : Move closing (tag Tag.ruby_end) outside
 
-pub move_step : {q p : Spot} {i : Item} → Move q i p → step q i ≡ some p
+pub move_step : {q p : Spot} {i : Item} → Move q i p → step q i ≡ Some p
 unfolding step
 move_step (single_char h) = rw h
 move_step open_ruby = refl
@@ -59,8 +53,8 @@ move_step close = refl
 
 -- where a step leads, a move does
 abbrev Leads : Spot → Item → Option Spot → Type 0
-Leads q i none = Unit {0}
-Leads q i (some p) = Move q i p
+Leads q i None = Unit {0}
+Leads q i (Some p) = Move q i p
 
 char_leads : (q : Spot) (c : ℕ) → allowed q c ≡ true → Leads q (char c) (char_step q)
 char_leads outside c h = single_char h
@@ -115,15 +109,15 @@ same_tag t u e = sym (tag_at_number u) ∙ ap tag_at (sym (eqb-true _ _ e)) ∙ 
 find_leads : (q : Spot) (t : Tag) (rs : List (Tag × Spot)) → LeadAll q rs → Leads q (tag t) (find t rs)
 find_leads q t [] h = tt
 find_leads q t (r ∷ rs) h =
-    elim (tested (eqb (tag_number t) (tag_number r.0))) [
+    elim (cases_Bool (eqb (tag_number t) (tag_number r.0))) [
       | inl e ↦ rw e (rw (same_tag t r.0 e) at h.0)
       | inr e ↦ rw e (find_leads q t rs h.1)
     ]
 
 step_leads : (q : Spot) (i : Item) → Leads q i (step q i)
 unfolding step
-step_leads q (char c) = elim (tested (allowed q c)) [ inl e ↦ rw e (char_leads q c e) | inr e ↦ rw e tt ]
+step_leads q (char c) = elim (cases_Bool (allowed q c)) [ inl e ↦ rw e (char_leads q c e) | inr e ↦ rw e tt ]
 step_leads q (tag t) = find_leads q t (tags q) (tags_lead q)
 
-pub step_move : {q p : Spot} {i : Item} → step q i ≡ some p → Move q i p
+pub step_move : {q p : Spot} {i : Item} → step q i ≡ Some p → Move q i p
 step_move {q} {p} {i} e = rw e at (step_leads q i)

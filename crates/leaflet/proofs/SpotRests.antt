@@ -1,9 +1,6 @@
 -- What may follow at each spot of an accepted text, said by contents: the reader's moves lead through it, and none is a
 -- dead end. Assumes nothing.
-use mathlib.Core.Path.{◌≡◌, refl}
-use Prim.Native.Nat.{ℕ}
-use mathlib.Core.Bool.{true}
-use mathlib.Core.List.{List, [], ◌∷◌}
+use Rattle.std.proofs.Common.{◌≡◌, refl, ℕ, true, List, [], ◌∷◌}
 use Rattle.lists.specs.Lists.{lists, in_list, class_of}
 use Rattle.rules.specs.Basics.{Run, whole}
 use Rattle.rules.specs.Records.{code_ok}

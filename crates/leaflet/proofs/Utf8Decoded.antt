@@ -1,20 +1,16 @@
 -- Table 3-7 of Unicode 15.1 is `utf8` of the scalar values: `next` finds a character's code point in its bytes. Assumes
 -- nothing.
-use mathlib.Core.Path.{◌≡◌, sym, ◌∙◌}
-use Prim.Native.Nat.{ℕ, ◌+◌, ◌*◌, ◌-◌, ◌/◌, ◌≤◌, ◌<◌}
-use native.Mathlib.Omega.{arith}
-use mathlib.Core.Bool.{true, not, and-eq-true_iff}
-use mathlib.Core.List.{List, [], ◌∷◌}
-use mathlib.Core.Logic.{◌⊎◌, inl, inr}
-use lib.Dec.{leb}
-use borrow.Author.Tests.{lt-ltb, le-ltb, leb-true, not-true}
+use Rattle.std.proofs.Common.{◌≡◌, sym, ◌∙◌, ℕ, ◌+◌, ◌*◌, ◌-◌, ◌/◌, ◌≤◌, ◌<◌, arith, true, not, List, [], ◌∷◌, ◌⊎◌}
+use Rattle.std.proofs.Common.{inl, inr, leb, lt-ltb, le-ltb, leb-true}
+use Rattle.std.proofs.Math.Bool.{and-eq-true_iff}
+use borrow.Author.Tests.{not-true}
 use Rattle.rules.specs.Basics.{within}
 use Rattle.rules.specs.Records.{code_ok}
 use Rattle.leaflet.specs.Utf8.{more, utf8}
 use Rattle.leaflet.specs.Items.{char}
 use Rattle.leaflet.specs.Decoding.{found, low, high, two, three, four, next_char}
 use Rattle.leaflet.proofs.ByteRanges.{inside, above, low_under, under_high}
-use Rattle.leaflet.proofs.Decisions.{ordered, true_false}
+use Rattle.std.proofs.lemmas.Bool.{cases_lt, true≢false}
 
 -- a scalar value is below the surrogates or above them
 pub code_ok_sides : (c : ℕ) → code_ok c ≡ true → (c ≤ 0x10FFFF) × ((c < 0xD800) ⊎ (0xDFFF < c))
@@ -26,11 +22,11 @@ code_ok_sides c e = (leb-true c 0x10FFFF p.0, sides)
 
     sides : (c < 0xD800) ⊎ (0xDFFF < c)
     sides =
-        elim (ordered c 0xD800) [
+        elim (cases_lt c 0xD800) [
           | inl h ↦ inl h
-          | inr h ↦ elim (ordered 0xDFFF c) [
+          | inr h ↦ elim (cases_lt 0xDFFF c) [
             | inl k ↦ inr k
-            | inr k ↦ absurd (true_false (sym (inside 0xD800 0xDFFF c h k) ∙ not-true _ p.1))
+            | inr k ↦ absurd (true≢false (sym (inside 0xD800 0xDFFF c h k) ∙ not-true _ p.1))
           ]
         ]
 
@@ -43,11 +39,11 @@ pub data Width (c : ℕ) : Type 0 where
 
 pub width : (c : ℕ) → Width c
 width c =
-    elim (ordered c 128) [
+    elim (cases_lt c 128) [
       | inl k ↦ of_one k
-      | inr k ↦ elim (ordered c 2048) [
+      | inr k ↦ elim (cases_lt c 2048) [
         | inl l ↦ of_two k l
-        | inr l ↦ elim (ordered c 65536) [ inl m ↦ of_three l m | inr m ↦ of_four m ]
+        | inr l ↦ elim (cases_lt c 65536) [ inl m ↦ of_three l m | inr m ↦ of_four m ]
       ]
     ]
 

@@ -1,15 +1,11 @@
 -- Table 3-7 of Unicode 15.1: what its rows of four bytes find is `utf8` of a scalar value. Assumes nothing.
-use mathlib.Core.Path.{◌≡◌, ap}
-use Prim.Native.Nat.{ℕ, ◌+◌, ◌*◌, ◌-◌, ◌/◌, ◌%◌, ◌≤◌}
-use native.Mathlib.Omega.{arith}
-use mathlib.Core.Bool.{◌&&◌, and-eq-true_iff}
-use mathlib.Core.List.{List, [], ◌∷◌, ◌++◌}
-use mathlib.Core.Logic.{inl, inr}
+use Rattle.std.proofs.Common.{◌≡◌, ap, ℕ, ◌+◌, ◌*◌, ◌-◌, ◌/◌, ◌%◌, ◌≤◌, arith, ◌&&◌, List, [], ◌∷◌, ◌++◌, inl, inr}
+use Rattle.std.proofs.Math.Bool.{and-eq-true_iff}
 use Rattle.leaflet.specs.Utf8.{utf8}
 use Rattle.leaflet.specs.Items.{item_bytes}
 use Rattle.leaflet.specs.Decoding.{low, high, is_continuation, second, four}
 use Rattle.leaflet.proofs.ByteRanges.{limits, low_least, high_most}
-use Rattle.leaflet.proofs.Decisions.{tested, ordered}
+use Rattle.std.proofs.lemmas.Bool.{cases_Bool, cases_lt}
 use Rattle.leaflet.proofs.Utf8Decoded.{four_bytes}
 use Rattle.leaflet.proofs.Utf8Rows.{Right, is_code_ok}
 
@@ -22,7 +18,7 @@ module _ (b x y z : ℕ) (hb : 0xF0 ≤ b) (kb : b ≤ 0xF4) (hx : low b ≤ x) 
   unfolding four_code
   four_long =
       let l = low_least b in
-      elim (ordered b 241) [
+      elim (cases_lt b 241) [
         | inl h ↦ let e : b ≡ 0xF0 = omega arith in let k : 0x90 ≤ x = rw e at hx in omega arith
         | inr h ↦ omega arith
       ]
@@ -32,7 +28,7 @@ module _ (b x y z : ℕ) (hb : 0xF0 ≤ b) (kb : b ≤ 0xF4) (hx : low b ≤ x) 
   four_short =
       let l = low_least b in
       let u = high_most b in
-      elim (ordered b 0xF4) [
+      elim (cases_lt b 0xF4) [
         | inl h ↦ omega arith
         | inr h ↦ let e : b ≡ 0xF4 = omega arith in let k : x ≤ 0x8F = rw e at kx in omega arith
       ]
@@ -57,7 +53,7 @@ four_right b [] h k = tt
 four_right b (x ∷ []) h k = tt
 four_right b (x ∷ y ∷ []) h k = tt
 four_right b (x ∷ y ∷ z ∷ bs) h k =
-    elim (tested (second b x && is_continuation y && is_continuation z)) [
+    elim (cases_Bool (second b x && is_continuation y && is_continuation z)) [
       | inl e ↦
           let r = (and-eq-true_iff (second b x && is_continuation y) (is_continuation z)).0 e in
           let p = (and-eq-true_iff (second b x) (is_continuation y)).0 r.0 in

@@ -1,17 +1,13 @@
 -- Table 3-7 of Unicode 15.1, row by row: what its rows find is `utf8` of a scalar value. Assumes nothing.
-use mathlib.Core.Path.{◌≡◌, ap}
-use Prim.Native.Nat.{ℕ, ◌+◌, ◌*◌, ◌-◌, ◌/◌, ◌%◌, ◌≤◌, ◌<◌}
-use native.Mathlib.Omega.{arith}
-use mathlib.Core.Bool.{true, ◌&&◌, and-eq-true_iff}
-use mathlib.Core.List.{List, [], ◌∷◌, ◌++◌}
-use mathlib.Core.Logic.{◌⊎◌, inl, inr}
-use borrow.Author.Tests.{le-leb}
+use Rattle.std.proofs.Common.{◌≡◌, ap, ℕ, ◌+◌, ◌*◌, ◌-◌, ◌/◌, ◌%◌, ◌≤◌, ◌<◌, arith, true, ◌&&◌, List, [], ◌∷◌, ◌++◌}
+use Rattle.std.proofs.Common.{◌⊎◌, inl, inr, le-leb}
+use Rattle.std.proofs.Math.Bool.{and-eq-true_iff}
 use Rattle.rules.specs.Records.{code_ok}
 use Rattle.leaflet.specs.Utf8.{more, utf8}
 use Rattle.leaflet.specs.Items.{Item, char, tag, item_bytes}
 use Rattle.leaflet.specs.Decoding.{Next, nothing, found, low, high, is_continuation, second, two, three}
 use Rattle.leaflet.proofs.ByteRanges.{below, above, limits, low_least, high_most}
-use Rattle.leaflet.proofs.Decisions.{tested, ordered}
+use Rattle.std.proofs.lemmas.Bool.{cases_Bool, cases_lt}
 use Rattle.leaflet.proofs.Utf8Decoded.{one_byte, two_bytes, three_bytes}
 
 -- an item that a text can hold: a scalar value or a tag
@@ -39,7 +35,7 @@ pub two_right : (b : ℕ) (bs : List ℕ) → 0xC2 ≤ b → b ≤ 0xDF → Righ
 unfolding two item_bytes
 two_right b [] h k = tt
 two_right b (x ∷ bs) h k =
-    elim (tested (is_continuation x)) [
+    elim (cases_Bool (is_continuation x)) [
       | inl e ↦
           let l = limits 0x80 0xBF x e in
           let c = (b - 192) * 64 + (x - 128) in
@@ -58,7 +54,7 @@ module _ (b x y : ℕ) (hb : 0xE0 ≤ b) (kb : b ≤ 0xEF) (hx : low b ≤ x) (k
   unfolding three_code
   three_long =
       let l = low_least b in
-      elim (ordered b 225) [
+      elim (cases_lt b 225) [
         | inl h ↦ let e : b ≡ 0xE0 = omega arith in let k : 0xA0 ≤ x = rw e at hx in omega arith
         | inr h ↦ omega arith
       ]
@@ -68,9 +64,9 @@ module _ (b x y : ℕ) (hb : 0xE0 ≤ b) (kb : b ≤ 0xEF) (hx : low b ≤ x) (k
   three_sides =
       let l = low_least b in
       let u = high_most b in
-      elim (ordered b 0xED) [
+      elim (cases_lt b 0xED) [
         | inl h ↦ inl (omega arith)
-        | inr h ↦ elim (ordered 0xED b) [
+        | inr h ↦ elim (cases_lt 0xED b) [
           | inl k ↦ inr (omega arith)
           | inr k ↦ let e : b ≡ 0xED = omega arith in let w : x ≤ 0x9F = rw e at kx in inl (omega arith)
         ]
@@ -93,7 +89,7 @@ unfolding three item_bytes three_code
 three_right b [] h k = tt
 three_right b (x ∷ []) h k = tt
 three_right b (x ∷ y ∷ bs) h k =
-    elim (tested (second b x && is_continuation y)) [
+    elim (cases_Bool (second b x && is_continuation y)) [
       | inl e ↦
           let p = (and-eq-true_iff (second b x) (is_continuation y)).0 e in
           let l = limits (low b) (high b) x p.0 in

@@ -8,13 +8,9 @@
 --   computed     one name for all that a worked text opens
 --
 -- Assumes nothing.
-use Prim.Native.Nat.{ℕ}
+use Rattle.std.proofs.Common.{ℕ, Bool, true, false, ◌&&◌, List, [], ◌∷◌, ◌++◌, map, eqb, length}
 use Prim.Native.Char.{code}
 use Prim.Native.String.{String, [] as []ₛ, ◌∷◌ as ◌∷ₛ◌}
-use mathlib.Core.Bool.{Bool, true, false, ◌&&◌}
-use mathlib.Core.List.{List, [], ◌∷◌, ◌++◌, map}
-use lib.Dec.{eqb}
-use lib.ListN.{length}
 use Rattle.lists.specs.Lists.{lists, in_list, class_of}
 use Rattle.lists.proofs.Decisions.{same}
 use Rattle.rules.specs.Basics.{whole}

@@ -1,9 +1,5 @@
 -- The records that a program writes from the first item to the last are those of the content. Assumes nothing.
-use mathlib.Core.Path.{◌≡◌, refl, ap, ◌∙◌}
-use Prim.Native.Nat.{ℕ, suc}
-use mathlib.Core.Bool.{true, false}
-use mathlib.Core.List.{List, [], ◌∷◌, ◌++◌, map}
-use lib.ListN.{length}
+use Rattle.std.proofs.Common.{◌≡◌, refl, ap, ◌∙◌, ℕ, suc, true, false, List, [], ◌∷◌, ◌++◌, map, length}
 use Rattle.rules.specs.Basics.{whole}
 use Rattle.leaflet.specs.Items.{Item, char, tag, Tag}
 use Rattle.leaflet.specs.Contents.{Annotation, bare, fenced, Piece, single, group, chars, spell_annotation, spell}

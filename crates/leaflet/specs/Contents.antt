@@ -1,6 +1,7 @@
--- Document 02, request 05: what a leaflet says, how it is written, and how it is read. Nothing here speaks of a reader.
+-- What a leaflet says, how it is written, and how it is read: "How a leaflet is read" in docs/RULES.md. Nothing here
+-- speaks of a reader.
 --
---   listed       some list of request 04 has the code point: it gets a class
+--   listed       some published list has the code point: it gets a class
 --   text char    what may stand inside rt and rp: "any code point but angle brackets and ampersands"
 --   plain char   what may stand outside them: such a code point that is listed
 --   annotation   what stands over a base text: an rt, bare, or fenced by an rp on both sides

@@ -5,8 +5,7 @@
 --   next         the item that a text starts with, and what follows it; or nothing
 --
 -- Assumes nothing.
-use Rattle.std.specs.Prelude.{ℕ, ◌+◌, ◌*◌, ◌-◌, Bool, cond, ◌&&◌, List, [], ◌∷◌, eqb, ltb}
-use Rattle.std.proofs.Math.Option.{Option, none, some}
+use Rattle.std.specs.Prelude.{ℕ, ◌+◌, ◌*◌, ◌-◌, Bool, cond, ◌&&◌, List, [], ◌∷◌, eqb, ltb, Option, None, Some}
 use Rattle.rules.specs.Basics.{within}
 use Rattle.leaflet.specs.Items.{Item, char, tag, Tag, less_than, tag_bytes}
 
@@ -56,14 +55,14 @@ next_char b bs =
     nothing)))
 
 unfoldable pub strip : List ℕ → List ℕ → Option (List ℕ)
-strip [] bs = some bs
-strip (t ∷ ts) [] = none
-strip (t ∷ ts) (b ∷ bs) = cond (eqb t b) (strip ts bs) none
+strip [] bs = Some bs
+strip (t ∷ ts) [] = None
+strip (t ∷ ts) (b ∷ bs) = cond (eqb t b) (strip ts bs) None
 
 -- the tag t where it stands, or else another item
 abbrev pub tag_or : Tag → Option (List ℕ) → Next → Next
-tag_or t none n = n
-tag_or t (some ds) n = found (tag t) ds
+tag_or t None n = n
+tag_or t (Some ds) n = found (tag t) ds
 
 unfoldable pub next_tag : List Tag → List ℕ → Next
 next_tag [] bs = nothing

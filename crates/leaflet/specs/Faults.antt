@@ -1,12 +1,12 @@
--- Document 02, request 05, answer 17: "the byte offset of the first character, tag or ill-formed sequence that no
--- accepted text has after the same beginning, or the text's length." Nothing here speaks of a reader.
+-- Answer 17, and its place: "the byte offset of the first character, tag or ill-formed sequence that no accepted text
+-- has after the same beginning, or the text's length." Nothing here speaks of a reader.
 --
 --   beginning    items that the items of some accepted text begin with
 --   longest      the longest beginning that a text starts with: after it comes no item with which it would still be
 --                one. So after it stands an item that no accepted text has there; or no item at all, since a "<" that
 --                starts none of the six tags, an ill-formed and a truncated sequence are none; or the text's end
 --   fault        a text that is not accepted, and the offset at which its longest beginning ends
---   element      a character other than "<", or a tag: what the request counts as one thing. Whether "<" starts one of
+--   element      a character other than "<", or a tag: what counts as one thing. Whether "<" starts one of
 --                the six tags is told by the text alone
 --   standing     what stands where the longest beginning ends; the three kinds are proved to be all
 --

@@ -1,8 +1,9 @@
--- Document 02, request 05: the records of a reading, whose words an import hands to edit. Nothing here speaks of a
--- reader.
+-- The records of a reading, whose words an import hands to edit: "How a leaflet is read" in docs/RULES.md. Nothing here
+-- speaks of a reader.
 --
 --   as word      a count as a word of 32 bits. What is beyond them stands as the largest word
---   advance      document 01's, where its rule leaves no choice, "in classes 3 and 27 .. half the size"
+--   advance      the one that the rule of its class has, where that leaves no choice, and in classes 3 and 27 half the
+--                size
 --   records      "Each ruby element .. becomes one group, numbered from 1 in order; of the rt only its character count
 --                is kept."
 --

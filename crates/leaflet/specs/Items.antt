@@ -1,4 +1,4 @@
--- Document 02, request 05: what a text is made of, and its bytes.
+-- What a leaflet's text is made of, and its bytes: "How a leaflet is read" in docs/RULES.md.
 --
 --   tag          one of six, "bare lower-case tags, end tags written out"
 --   item         a character, by its code point, or a tag

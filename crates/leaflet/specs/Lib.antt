@@ -1,4 +1,4 @@
--- Document 02, request 05, import of web leaflets. A reader's order is that of the lines below.
+-- How a leaflet is read, told in docs/RULES.md. A reader's order is that of the lines below.
 -- Which texts are accepted, their reading, the place that answer 17 names, and the records. Nothing in them speaks of a
 -- reader.
 pub mod Utf8
@@ -11,6 +11,8 @@ pub mod Imported
 pub mod Decoding
 pub mod Spots
 pub mod Reader
--- What the program's contracts say beside: records from the first item to the last, and the program's enums.
+-- What the program's contracts say beside: records from the first item to the last, the program's types, and what an
+-- item adds to what has been read.
 pub mod Written
 pub mod Enums
+pub mod Past

@@ -11,7 +11,7 @@
 --
 -- Assumes nothing.
 use Rattle.std.specs.Prelude.{ℕ, zero, suc, ◌+◌, Bool, true, false, cond, ◌&&◌, List, [], ◌∷◌, length}
-use Rattle.std.proofs.Math.Option.{Option, none, some}
+use Rattle.std.specs.Prelude.{Option, None, Some}
 use Rattle.rules.specs.Records.{record_words}
 use Rattle.leaflet.specs.Items.{Item, char, tag, Tag, item_bytes}
 use Rattle.leaflet.specs.Contents.{Part, character, annotated}
@@ -25,14 +25,14 @@ is_empty (b ∷ bs) = false
 
 -- no item goes on: a fault here, but at the end of a text with no element open
 abbrev pub ended : Spot → ℕ → List ℕ → Option ℕ
-ended q k bs = cond (is_outside q && is_empty bs) none (some k)
+ended q k bs = cond (is_outside q && is_empty bs) None (Some k)
 
 unfoldable pub scan : ℕ → Spot → ℕ → List ℕ → Option ℕ
 scan zero q k bs = ended q k bs
 scan (suc n) q k bs =
     elim (next bs) [
       | nothing ↦ ended q k bs
-      | found i ds ↦ elim (step q i) [ none ↦ some k | some p ↦ scan n p (k + length (item_bytes i)) ds ]
+      | found i ds ↦ elim (step q i) [ None ↦ Some k | Some p ↦ scan n p (k + length (item_bytes i)) ds ]
     ]
 
 -- of what is left of a text, and of a whole text
@@ -85,8 +85,8 @@ pub data Answer : Type 0 where
 
 -- what a scan came to
 abbrev pub answered : List ℕ → Option ℕ → Answer
-answered bs none = parts (parts_in (items_from bs))
-answered bs (some k) = fault k
+answered bs None = parts (parts_in (items_from bs))
+answered bs (Some k) = fault k
 
 unfoldable pub read : List ℕ → Answer
 read bs = answered bs (fault_in bs)

@@ -1,7 +1,6 @@
 -- Unicode 15.1, section 3.9: code points as bytes. "Malformed UTF-8 is judged by the Unicode standard's table of
--- well-formed sequences" (document 02, request 05): a sequence is well-formed if it is `utf8` of a scalar value, a code
--- point that is no surrogate (D76), which is document 01's own rule for code points, `code_ok`. proofs/Claims.antt has
--- the table.
+-- well-formed sequences": a sequence is well-formed if it is `utf8` of a scalar value, a code point that is no
+-- surrogate (D76), which is the rule for each code point of a record, `code_ok`. proofs/Claims.antt has the table.
 --
 --   more         a byte that goes on: 10, and the last six bits of a number
 --   utf8         the bytes of a scalar value (table 3-6)

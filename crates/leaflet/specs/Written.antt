@@ -9,9 +9,8 @@
 --   rubied       words of m records from index g on, with n as their ruby counts; `rubied_to` a word
 --
 -- Assumes nothing.
-use Rattle.std.specs.Prelude.{◌≡◌, ℕ, zero, suc, ◌+◌, ◌-◌, ◌/◌, ◌%◌, ◌≤◌, Bool, true, false, cond}
-use Rattle.std.specs.Prelude.{List, [], ◌∷◌, length, set}
-use Rattle.std.proofs.Math.Option.{Option, none, some}
+use Rattle.std.specs.Prelude.{ℕ, zero, suc, ◌+◌, ◌-◌, ◌/◌, Bool, true, false, cond, List, [], ◌∷◌, set}
+use Rattle.std.specs.Prelude.{Option, None, Some}
 use Rattle.rules.specs.Layout.{record_length, records_length}
 use Rattle.rules.specs.Records.{Rec}
 use Rattle.leaflet.specs.Items.{Item, char, tag, Tag}
@@ -55,8 +54,8 @@ rt_ahead (char c ∷ is) = rt_ahead is
 rt_ahead (tag t ∷ is) = if_rt t (chars_before_tag is) (rt_ahead is)
 
 abbrev pub toward : Option Spot → Spot
-toward none = outside
-toward (some q) = q
+toward None = outside
+toward (Some q) = q
 
 -- outside ruby elements a record is in no group, and has no ruby
 abbrev pub in_group : Spot → ℕ → ℕ
@@ -116,12 +115,6 @@ ruby_at = 5
 unfoldable pub rubied : ℕ → ℕ → ℕ → List ℕ → List ℕ
 rubied zero g n ws = ws
 rubied (suc m) g n ws = rubied m (g + record_length) n (set ws (g + ruby_at) n)
-
--- whole records stand from one word up to another, and get a ruby count
-pub record RecordsIn (ws : List ℕ) (start end : ℕ) : Type 0 where
-  pub ordered : start ≤ end
-  pub fits : end ≤ length ws
-  pub whole : (end - start) % record_length ≡ 0
 
 abbrev pub rubied_to : ℕ → ℕ → ℕ → List ℕ → List ℕ
 rubied_to start end n ws = rubied ((end - start) / record_length) start n ws

@@ -1,9 +1,10 @@
 // Which code points may stand where.
-ghost use Rattle.std.specs.Prelude.{◌≡◌, cond};
+ghost use Rattle.std.specs.Prelude.{◌≡◌, is_some, IfSome};
+ghost use Rattle.lists.specs.Classes.{number_of};
 ghost use Rattle.lists.specs.Lists.{class_of};
 ghost use Rattle.leaflet.specs.Contents.{text_char, plain_char};
 
-use lists::class_of;
+use lists::{Class, class_of};
 use rules::limits::HIGHEST_CODE;
 
 // Surrogates are no characters, and what markup is written with is none of a text's.
@@ -17,18 +18,27 @@ const GREATER_THAN: u32 = 0x3E;
 
 const AMPERSAND: u32 = 0x26;
 
-// Inside rt and rp: no surrogate, no angle bracket, no ampersand.
-pub(crate) fn is_text_char(c: u32) -> bool
-    ensures { result ≡ text_char c }
+/// Inside rt and rp: no surrogate, no angle bracket, no ampersand.
+// surrogates by their numbers, as the definition has them: `char::from_u32` would leave none to be refused
+#[tactic(auto, unfolding(crate::specs::Contents::text_char, rules::specs::Records::code_ok))]
+pub(crate) fn is_text_char(code: u32) -> bool
+    ensures { result ≡ text_char code }
 {
-    (c <= HIGHEST_CODE)
-        & !((FIRST_SURROGATE <= c) & (c <= LAST_SURROGATE))
-        & !((c == LESS_THAN) | (c == GREATER_THAN) | (c == AMPERSAND))
+    code <= HIGHEST_CODE
+        && !matches!(
+            code,
+            FIRST_SURROGATE..=LAST_SURROGATE | LESS_THAN | GREATER_THAN | AMPERSAND
+        )
 }
 
-// Outside them: the class of a character that may stand there, or 0. Brackets and ampersands have a class, and may not.
-pub(crate) fn plain_class(c: u32) -> u32
-    ensures { result ≡ cond (plain_char c) (class_of c) 0 }
+/// Outside them: the class of a character that may stand there. Brackets and ampersands have a class, and may not.
+pub(crate) fn plain_class(code: u32) -> Option<Class>
+    ensures allowed { is_some result ≡ plain_char code }
+    ensures class { IfSome result (λ c. number_of c ≡ class_of code) }
 {
-    if is_text_char(c) { class_of(c) } else { 0 }
+    if is_text_char(code) {
+        class_of(code)
+    } else {
+        None
+    }
 }

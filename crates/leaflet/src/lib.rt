@@ -1,13 +1,14 @@
-// Document 02, request 05: UTF-8 text with ruby, rt and rp, read into the words of records.
+// Web leaflets, UTF-8 text with ruby, rt and rp, read into the words of records: "How a leaflet is read" in
+// docs/RULES.md.
 #![tactic(auto)]
 
 mod ahead;
 mod characters;
-mod groups;
 mod items;
+mod progress;
 mod reader;
 mod records;
 mod spots;
 
-pub use reader::{Reading, read_leaflet};
+pub use reader::{Fault, read_leaflet};
 pub use records::ROOM;

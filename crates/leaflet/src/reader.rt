@@ -1,139 +1,74 @@
 // The reader: item by item, from the text's start.
-ghost use Rattle.std.specs.Prelude.{◌≡◌, ◌<◌, ◌≤◌, length, drop};
-ghost use Rattle.leaflet.specs.Reader.{fault_from};
-ghost use Rattle.leaflet.specs.Enums.{spot_of, with_width, ItemStepAt, outcome_of, full_reading, ReadAs};
+ghost use Rattle.std.specs.Prelude.{◌≡◌, ◌+◌, ◌^◌, ◌<◌, length, IfOk, IfErr};
+ghost use Rattle.leaflet.specs.Reader.{ended, fault_from, fault_in};
+ghost use Rattle.leaflet.specs.Enums.{spot_of, fault_place, ReadsWords};
 
 use crate::ahead::rt_ahead;
-use crate::groups::{groups_past, put_ruby, put_ruby_past, ruby_counted, ruby_past, start_past};
-use crate::items::{Found, item_at};
-use crate::records::{Put, ROOM, as_word, put_character};
-use crate::spots::{Spot, Step, after_char, after_tag, is_outside, past_character};
+use crate::items::split_item;
+use crate::progress::{NotPassed, Progress};
+use crate::records::ROOM;
+use crate::spots::Spot;
 
-// Where the item at an offset leads.
-#[derive(Clone, Copy)]
-pub(crate) enum ItemStep {
-    // no item that may stand there
-    Stopped,
-    // past an item: the next spot, and the item's bytes
-    Past(Spot, usize),
+/// A text is no leaflet.
+#[derive(Clone, Copy, Debug, PartialEq, Eq)]
+pub struct Fault {
+    /// The byte offset of the first character, tag or ill-formed sequence that no leaflet has after the same
+    /// beginning, or the text's length.
+    pub at: usize,
 }
 
-// How what is left of a text ends.
-#[derive(Clone, Copy)]
-pub(crate) enum Outcome {
-    Whole,
-    // the offset that answer 17 names
-    Fault(usize),
-}
-
-// What a text is read as.
-#[derive(Clone, Copy)]
-pub enum Reading {
-    // the offset that answer 17 names
-    Fault(usize),
-    // how many words of records were put
-    Words(usize),
-}
-
-// A step of an item of some bytes.
-fn with_width(step: Step, width: usize) -> ItemStep
-    ensures { result ≡ with_width step width }
+// Where no item goes on, at an offset and a spot: a leaflet has ended if nothing is left, and no element is open.
+fn ended(spot: Spot, at: usize, rest: &[u8]) -> Result<(), Fault>
+    ensures { fault_place result ≡ ended (spot_of spot) at rest.now }
 {
-    match step {
-        Step::To(p) => ItemStep::Past(p, width),
-        Step::Refused => ItemStep::Stopped,
+    if spot.is_outside() && rest.is_empty() {
+        Ok(())
+    } else {
+        Err(Fault { at })
     }
 }
 
-// Where the item at an offset leads a reader at a spot.
-fn step_at(bs: &[u8], at: usize, q: Spot) -> ItemStep
-    requires { at < length bs.now }
-    ensures { ItemStepAt bs.now at (spot_of q) result }
+// Reads what is left of a text, from an offset and a spot on, for faults alone.
+fn check_rest(spot: Spot, at: usize, rest: &[u8]) -> Result<(), Fault>
+    requires { at + length rest.now < 2 ^ 64 }
+    ensures { fault_place result ≡ fault_from (spot_of spot) at rest.now }
 {
-    match item_at(bs, at) {
-        Found::Nothing => ItemStep::Stopped,
-        Found::Character(c, width) => with_width(after_char(q, c), width),
-        Found::Markup(t, width) => with_width(after_tag(q, t), width),
+    let end = at + rest.len();
+    let mut spot = spot;
+    let mut left = rest;
+    // `while let`, no `for`: where no item goes on, what is left tells whether the text has ended
+    while let Some((item, after)) = split_item(left) {
+        spot = spot.after(item).ok_or(Fault {
+            at: end - left.len(),
+        })?;
+        left = after;
     }
+    ended(spot, end - left.len(), left)
 }
 
-// Answer 17's place from an offset on, if it is due.
-fn fault_from(bs: &[u8], start: usize, spot: Spot) -> Outcome
-    requires { start ≤ length bs.now }
-    ensures { outcome_of result ≡ fault_from (spot_of spot) start (drop start bs.now) }
+/// Reads a text into words of records of a size, and answers how many words. There is room for one record more than a
+/// slot holds, so that edit finds them too many; what comes after it is read for faults alone.
+pub fn read_leaflet(text: &[u8], size: u32, words: &mut [u32; ROOM]) -> Result<usize, Fault>
+    ensures fault { IfErr result (λ f. fault_in text.now ≡ Some f.at) }
+    ensures words { IfOk result (λ n. ReadsWords text.now size words.new n) }
 {
-    let mut q = spot;
-    let mut at = start;
-    while at < bs.len() {
-        match step_at(bs, at, q) {
-            ItemStep::Stopped => return Outcome::Fault(at),
-            ItemStep::Past(p, width) => {
-                q = p;
-                at += width;
+    // a lent array, and how many of its words are put: no call allocates, and the clause `words` speaks of both
+    let mut progress = Progress::START;
+    let mut rest = text;
+    // `while let`, no `for`: where no item goes on, what is left tells whether the text has ended
+    while let Some((item, after)) = split_item(rest) {
+        let at = text.len() - rest.len();
+        match progress.past(item, size, words) {
+            Ok(past) => progress = past,
+            Err(NotPassed::Refused) => return Err(Fault { at }),
+            Err(NotPassed::Full) => {
+                progress.put_ruby(rt_ahead(rest), words);
+                check_rest(progress.spot, at, rest)?;
+                return Ok(progress.end);
             }
         }
+        rest = after;
     }
-    if is_outside(q) {
-        return Outcome::Whole;
-    }
-    Outcome::Fault(at)
-}
-
-// A reading for which there is no more room after `i` words.
-fn full_reading(outcome: Outcome, i: usize) -> Reading
-    ensures { result ≡ full_reading outcome i }
-{
-    match outcome {
-        Outcome::Whole => Reading::Words(i),
-        Outcome::Fault(at) => Reading::Fault(at),
-    }
-}
-
-// Reads a text into words of records of a size. There is room for one record more than a slot holds, so that edit
-// finds them too many; what comes after it is read for faults alone.
-pub fn read_leaflet(bs: &[u8], size: u32, words: &mut [u32; ROOM]) -> Reading
-    ensures { ReadAs bs.now size words.new result }
-{
-    // lent as a slice, so that the proof knows its length
-    let out = &mut words[..];
-    let mut q = Spot::Outside;
-    let mut at = 0;
-    // groups begun, ruby characters of the last, words put, and up to which they have their ruby counts
-    let mut k = 0;
-    let mut n = 0;
-    let mut i = 0;
-    let mut g = 0;
-    while at < bs.len() {
-        match item_at(bs, at) {
-            Found::Nothing => return Reading::Fault(at),
-            Found::Character(c, width) => match put_character(out, i, q, c, size, k) {
-                Put::Refused => return Reading::Fault(at),
-                Put::Full => {
-                    put_ruby(out, g, i, as_word(rt_ahead(bs, at)));
-                    return full_reading(fault_from(bs, at, q), i);
-                }
-                Put::Next(j) => {
-                    i = j;
-                    n = ruby_counted(q, n);
-                    g = start_past(q, g, j);
-                    q = past_character(q);
-                    at += width;
-                }
-            },
-            Found::Markup(t, width) => match after_tag(q, t) {
-                Step::Refused => return Reading::Fault(at),
-                Step::To(p) => {
-                    g = put_ruby_past(out, t, g, i, n);
-                    k = groups_past(t, k);
-                    n = ruby_past(t, n);
-                    q = p;
-                    at += width;
-                }
-            },
-        }
-    }
-    if is_outside(q) {
-        return Reading::Words(i);
-    }
-    Reading::Fault(at)
+    ended(progress.spot, text.len() - rest.len(), rest)?;
+    Ok(progress.end)
 }

@@ -1,12 +1,7 @@
 -- What is proved of the published lists, in reading order. That they are Annex A's is no theorem: for that stand the
 -- script that writes them, these counts, and a second copy, taken from the source in another way, with which every
 -- answer of the exports is compared. Assumes nothing.
-use mathlib.Core.Path.{◌≡◌, refl, sym, ◌∙◌}
-use Prim.Native.Nat.{ℕ}
-use native.Mathlib.Omega.{arith}
-use mathlib.Core.Bool.{Bool, true, false, cond}
-use mathlib.Core.List.{◌∷◌, []}
-use mathlib.Core.Logic.{inl, inr, ◌↔◌}
+use Rattle.std.proofs.Common.{◌≡◌, refl, sym, ◌∙◌, ℕ, arith, Bool, true, false, cond, ◌∷◌, [], inl, inr, ◌↔◌}
 use Rattle.lists.specs.ListsTo16.{opening_brackets, closing_brackets, hyphens, dividing_marks, middle_dots}
 use Rattle.lists.specs.ListsTo16.{full_stops, commas, inseparable, iteration_marks, prolonged_sound_mark}
 use Rattle.lists.specs.ListsTo16.{small_kana, prefixed_abbreviations, postfixed_abbreviations}
@@ -15,7 +10,7 @@ use Rattle.lists.specs.List19.{ideographic}
 use Rattle.lists.specs.List27.{western}
 use Rattle.lists.specs.Lists.{lists, in_list, class_of}
 use Rattle.lists.specs.Meanings.{Belongs, Gets, gets_western, gets_lowest, gets_none}
-use Rattle.lists.proofs.Decisions.{ordered, true_false}
+use Rattle.std.proofs.lemmas.Bool.{cases_lt, true≢false}
 use Rattle.lists.proofs.CodeCounts.{counts}
 use Rattle.lists.proofs.Has.{lists_belong, belong_lists}
 use Rattle.lists.proofs.Lowest.{ascending, Lowest, lowest_found, lowest_none, lowest_is}
@@ -50,7 +45,7 @@ pub in_list_means : (c k : ℕ) → (in_list c k ≡ true) ↔ Belongs c k lists
 unfolding in_list
 in_list_means c k = (λ e. lists_belong c k lists e, λ b. belong_lists c k lists b)
 
--- and a code point gets its class by request 05's rule, which gives it one only
+-- and a code point gets its class by the rule, which gives it one only
 pub class_of_means : (k : ℕ) → Gets k (class_of k)
 unfolding class_of
 class_of_means k = cases (in_list 27 k) refl (lowest_is k 1 lists ascend)
@@ -58,7 +53,7 @@ class_of_means k = cases (in_list 27 k) refl (lowest_is k 1 lists ascend)
     cases : (t : Bool) → in_list 27 k ≡ t → {c : ℕ} → Lowest k lists c → Gets k (cond t 27 c)
     cases true q l = gets_western ((in_list_means 27 k).0 q)
     cases false q (lowest_found b g) =
-        gets_lowest (λ w. true_false (sym ((in_list_means 27 k).1 w) ∙ q)) b g
+        gets_lowest (λ w. true≢false (sym ((in_list_means 27 k).1 w) ∙ q)) b g
     cases false q (lowest_none g) = gets_none g
 
 pub one_class : (k c d : ℕ) → Gets k c → Gets k d → c ≡ d
@@ -67,9 +62,9 @@ one_class k c d (gets_western w) (gets_lowest f b g) = absurd (f w)
 one_class k c d (gets_western w) (gets_none g) = absurd (g 27 w)
 one_class k c d (gets_lowest f b g) (gets_western w) = absurd (f w)
 one_class k c d (gets_lowest f b g) (gets_lowest e a h) =
-    elim (ordered c d) [
+    elim (cases_lt c d) [
       | inl l ↦ absurd (h c l b)
-      | inr l ↦ elim (ordered d c) [ inl m ↦ absurd (g d m a) | inr m ↦ omega arith ]
+      | inr l ↦ elim (cases_lt d c) [ inl m ↦ absurd (g d m a) | inr m ↦ omega arith ]
     ]
 one_class k c d (gets_lowest f b g) (gets_none h) = absurd (h c b)
 one_class k c d (gets_none g) (gets_western w) = absurd (g 27 w)

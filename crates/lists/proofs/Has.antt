@@ -1,21 +1,18 @@
 -- A list's ranges have a code point exactly where the question says so. Assumes nothing.
-use mathlib.Core.Path.{◌≡◌, refl, sym}
-use Prim.Native.Nat.{ℕ}
-use mathlib.Core.Bool.{Bool, true, false, ◌&&◌, ◌||◌, or-true, and-eq-true_iff}
-use mathlib.Core.List.{List, [], ◌∷◌}
-use lib.Dec.{leb, eqb}
-use borrow.Author.Tests.{leb-true, le-leb, eqb-true, eq-eqb}
+use Rattle.std.proofs.Common.{◌≡◌, refl, sym, ℕ, Bool, true, false, ◌&&◌, ◌||◌, List, [], ◌∷◌, leb, eqb, leb-true}
+use Rattle.std.proofs.Common.{le-leb, eqb-true, eq-eqb}
+use Rattle.std.proofs.Math.Bool.{or-true, and-eq-true_iff}
 use Rattle.lists.specs.Ranges.{Range, range, in_range, has_code}
 use Rattle.lists.specs.Lists.{ClassList, list, in_lists}
 use Rattle.lists.specs.Meanings.{Among, among_here, among_later, Has, Belongs}
-use Rattle.lists.proofs.Decisions.{true_false}
+use Rattle.std.proofs.lemmas.Bool.{true≢false}
 
 later : {k : ℕ} {r : Range} {rs : List Range} → Has k rs → Has k (r ∷ rs)
 later h =
     record { first = h.first; last = h.last; there = among_later h.there; low = h.low; high = h.high }
 
 pub code_has : (k : ℕ) (rs : List Range) → has_code k rs ≡ true → Has k rs
-code_has k [] e = absurd (true_false (sym e))
+code_has k [] e = absurd (true≢false (sym e))
 code_has k (range a b ∷ rs) e = cases (in_range k (range a b)) refl (code_has k rs) e
   where
     cases : (t : Bool) → in_range k (range a b) ≡ t → (has_code k rs ≡ true → Has k rs) → (t || has_code k rs) ≡ true →
@@ -40,7 +37,7 @@ has_code_holds k rs h = at rs h.there
     at (r ∷ rs) (among_later m) = rw (at rs m) (or-true (in_range k r))
 
 pub lists_belong : (c k : ℕ) (ls : List ClassList) → in_lists c k ls ≡ true → Belongs c k ls
-lists_belong c k [] e = absurd (true_false (sym e))
+lists_belong c k [] e = absurd (true≢false (sym e))
 lists_belong c k (list n rs ∷ ls) e = cases (eqb c n) refl (has_code k rs) refl (λ e. next (lists_belong c k ls e)) e
   where
     next : Belongs c k ls → Belongs c k (list n rs ∷ ls)

@@ -1,17 +1,12 @@
 -- Lists in ascending order of their classes: the first that has a code point is the lowest-numbered.
 -- Assumes nothing.
-use mathlib.Core.Path.{◌≡◌, refl, sym, ◌∙◌}
-use Prim.Native.Nat.{ℕ, suc, ◌≤◌, ◌<◌}
-use native.Mathlib.Omega.{arith}
-use mathlib.Core.Bool.{Bool, true, false, cond, ◌&&◌, and-eq-true_iff}
-use mathlib.Core.List.{List, [], ◌∷◌}
-use mathlib.Core.Logic.{◌⊎◌, inl, inr}
-use lib.Dec.{leb}
-use borrow.Author.Tests.{leb-true}
+use Rattle.std.proofs.Common.{◌≡◌, refl, sym, ◌∙◌, ℕ, suc, ◌≤◌, ◌<◌, arith, Bool, true, false, cond, ◌&&◌, List, []}
+use Rattle.std.proofs.Common.{◌∷◌, ◌⊎◌, inl, inr, leb, leb-true}
+use Rattle.std.proofs.Math.Bool.{and-eq-true_iff}
 use Rattle.lists.specs.Ranges.{Range, has_code}
 use Rattle.lists.specs.Lists.{ClassList, list, lowest_with}
 use Rattle.lists.specs.Meanings.{Among, among_here, among_later, Has, Belongs}
-use Rattle.lists.proofs.Decisions.{true_false}
+use Rattle.std.proofs.lemmas.Bool.{true≢false}
 use Rattle.lists.proofs.Has.{code_has, has_code_holds}
 
 -- the classes ascend, from lo on
@@ -62,7 +57,7 @@ lowest_is k lo (list n rs ∷ ls) e =
     past : (d : ℕ) → has_code k rs ≡ false → Belongs d k (list n rs ∷ ls) → Belongs d k ls
     past d q b =
         elim (first_or_later b.own b.has) [
-          | inl g ↦ absurd (true_false (sym (has_code_holds k rs g.1) ∙ q))
+          | inl g ↦ absurd (true≢false (sym (has_code_holds k rs g.1) ∙ q))
           | inr g ↦ g
         ]
 

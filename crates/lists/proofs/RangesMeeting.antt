@@ -1,13 +1,10 @@
 -- What an interval of code points leaves of the lists: the ranges that meet it. No question at a code point of the
 -- interval sees a difference.
 -- Assumes nothing.
-use mathlib.Core.Path.{◌≡◌, refl, sym, ap, ◌∙◌}
-use mathlib.Core.Bool.{Bool, true, false, ◌&&◌, ◌||◌, and-false}
-use mathlib.Core.List.{List, [], ◌∷◌}
-use Prim.Native.Nat.{ℕ, ◌+◌, ◌≤◌, ◌<◌}
-use native.Mathlib.Omega.{arith}
-use lib.Dec.{leb, ltb}
-use borrow.Author.Tests.{ltb-false, leb-false, lt-leb}
+use Rattle.std.proofs.Common.{◌≡◌, refl, sym, ap, ◌∙◌, Bool, true, false, ◌&&◌, ◌||◌, List, [], ◌∷◌, ℕ, ◌+◌, ◌≤◌, ◌<◌}
+use Rattle.std.proofs.Common.{arith, leb, ltb, ltb-false, leb-false}
+use Rattle.std.proofs.Math.Bool.{and-false}
+use borrow.Author.Tests.{lt-leb}
 use Rattle.lists.specs.Ranges.{Range, range, in_range, has_code}
 use Rattle.lists.specs.Lists.{ClassList, list}
 use Rattle.lists.specs.Entries.{also, classes_with}

@@ -2,7 +2,7 @@
 --
 --   has          some range of a list has a code point
 --   belongs      a code point stands in a class's list, one of some lists
---   gets         the class that a code point gets (request 05)
+--   gets         the class that a code point gets
 --
 -- Assumes nothing.
 use Rattle.std.specs.Prelude.{ℕ, ◌≤◌, ◌<◌, List, ◌∷◌}

@@ -1,7 +1,5 @@
 -- Laws of `All`: what holds of every element of a list holds of every element of its parts. Assumes nothing.
-use Prim.Native.Nat.{ℕ, zero, suc}
-use mathlib.Core.List.{List, [], ◌∷◌, ◌++◌}
-use lib.ListN.{take, drop}
+use Rattle.std.proofs.Common.{ℕ, zero, suc, List, [], ◌∷◌, ◌++◌, take, drop}
 use Rattle.rules.specs.Meanings.{All, all_none, all_more}
 
 pub all_front : {A : Type 0} {P : A → Type 0} (ps qs : List A) → All P (ps ++ qs) → All P ps

@@ -1,46 +1,25 @@
--- Answers 9 and 10 name the place of a record, as 8 and 12 do by `fails_within` of FirstFailing.antt. Assumes nothing.
-use mathlib.Core.Path.{◌≡◌, sym, ap, ◌∙◌}
-use mathlib.Core.List.{List, [], ◌∷◌, ◌++◌}
-use mathlib.Core.Logic.{inl, inr}
-use mathlib.Core.Option.{some}
-use Prim.Native.Nat.{ℕ, suc, ◌+◌, ◌<◌}
-use native.Mathlib.Omega.{arith}
-use lib.ListN.{length}
-use Rattle.rules.specs.Basics.{joined}
+-- Answer 9 names the place of a record, as 8 and 12 do by `fails_within` of FirstFailing.antt. Assumes nothing.
+use Rattle.std.proofs.Common.{◌≡◌, List, [], ◌∷◌, inl, inr, Some, ℕ, suc, ◌+◌, ◌<◌, arith, length}
 use Rattle.rules.specs.Records.{Rec}
-use Rattle.rules.specs.Groups.{same_group, may_follow, bad_group, group_fault, units, counts}
-use Rattle.rules.specs.Breaks.{forbidden_between, runs, no_breaking}
-use Rattle.rules.proofs.Decisions.{tested, some_none, some_same}
-use Rattle.rules.proofs.Cuts.{cut_joined, joined_append}
-use Rattle.rules.proofs.NoBreaking.{counts_append, place_of_10}
-use Rattle.rules.proofs.WordCounts.{counts_units}
+use Rattle.rules.specs.Groups.{same_group, may_follow, bad_group, group_fault}
+use Rattle.std.proofs.lemmas.Bool.{cases_Bool}
+use Rattle.std.proofs.lemmas.Option.{same_Some, none-some}
 
 -- counted from i, where p is the n-th record of its group
-pub group_within : (i n j : ℕ) (p : Rec) (rs : List Rec) → bad_group i n p rs ≡ some j → j < i + length rs
+pub group_within : (i n j : ℕ) (p : Rec) (rs : List Rec) → bad_group i n p rs ≡ Some j → j < i + length rs
 unfolding bad_group
-group_within i n j p [] e = absurd (some_none (sym e))
+group_within i n j p [] e = absurd (none-some _ e)
 group_within i n j p (r ∷ rs) e =
-    elim (tested (same_group p r)) [
+    elim (cases_Bool (same_group p r)) [
       | inr z ↦ omega (arith, group_within (suc i) 1 j r rs (rw (z, bad_group) at e))
       | inl z ↦
-          elim (tested (may_follow n p r)) [
+          elim (cases_Bool (may_follow n p r)) [
             | inl y ↦ omega (arith, group_within (suc i) (suc n) j r rs (rw (z, y, bad_group) at e))
-            | inr y ↦ let q : i ≡ j = some_same (rw (z, y, bad_group) at e) in omega arith
+            | inr y ↦ let q : i ≡ j = same_Some _ _ (rw (z, y, bad_group) at e) in omega arith
           ]
     ]
 
-pub fault_within : (j : ℕ) (rs : List Rec) → group_fault rs ≡ some j → j < length rs
+pub fault_within : (j : ℕ) (rs : List Rec) → group_fault rs ≡ Some j → j < length rs
 unfolding group_fault
-fault_within j [] e = absurd (some_none (sym e))
+fault_within j [] e = absurd (none-some _ e)
 fault_within j (r ∷ rs) e = omega (arith, group_within 1 1 j r rs e)
-
-pub wide_within : (m x j : ℕ) (rs : List Rec) → no_breaking m x (units rs) ≡ some j → j < length rs
-unfolding runs joined counts
-wide_within m x j rs e =
-    let w = place_of_10 m x (units rs) j e in
-    let a : joined w.before ++ joined (w.run ∷ w.after) ≡ units rs =
-    sym (joined_append w.before (w.run ∷ w.after))
-    ∙ ap (λ ls. joined ls) w.all ∙ cut_joined forbidden_between (units rs) in
-    let n : counts (joined w.before) + counts (joined (w.run ∷ w.after)) ≡ length rs =
-    sym (counts_append (joined w.before) (joined (w.run ∷ w.after))) ∙ ap (λ us. counts us) a ∙ counts_units rs in
-    omega (arith, n, w.place)

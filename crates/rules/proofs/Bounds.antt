@@ -1,19 +1,15 @@
 -- How large a size, a group's numbers and the shifts in its shorter row get; so the program's sums and products fit 32
 -- bits. Assumes nothing.
-use mathlib.Core.Path.{◌≡◌}
-use Prim.Native.Nat.{ℕ, ◌+◌, ◌*◌, ◌-◌, ◌/◌, ◌%◌, ◌≤◌, ◌<◌}
-use native.Mathlib.Omega.{arith}
-use native.Mathlib.Nat.{mul-le-mul, mul-le-mul_left, mul_comm, mul-div_left, div-le_of_le-mul}
-use mathlib.Core.Bool.{true, ◌&&◌, and-eq-true_iff}
-use mathlib.Core.Logic.{inl, inr}
-use borrow.Author.Tests.{le-leb, leb-true, ltb-true, eqb-true}
-use lib.Dec.{leb, ltb, eqb}
+use Rattle.std.proofs.Common.{◌≡◌, ℕ, ◌+◌, ◌*◌, ◌-◌, ◌/◌, ◌%◌, ◌≤◌, ◌<◌, arith, mul-le-mul, mul-le-mul_left, mul_comm}
+use Rattle.std.proofs.Common.{true, false, ◌&&◌, inl, inr, le-leb, leb-true, ltb-true, eqb-true, leb, ltb, eqb}
+use Rattle.std.proofs.Math.Bool.{and-eq-true_iff}
+use Rattle.std.proofs.Math.Nat.{mul-div_left, div-le_of_le-mul}
 use Rattle.rules.specs.Basics.{within}
 use Rattle.rules.specs.Limits.{size_step, least_size, largest_size, most_ruby, largest_advance, largest_base}
 use Rattle.rules.specs.Records.{size_ok}
-use Rattle.rules.specs.Groups.{ruby_total, shift, ruby_ok}
+use Rattle.rules.specs.Groups.{ruby_total, shift, ruby_ok, ruby_offset, ruby_place}
 use Rattle.rules.specs.Bounds.{ShiftBounds}
-use Rattle.rules.proofs.Decisions.{tested}
+use Rattle.std.proofs.lemmas.Bool.{cases_Bool}
 use Rattle.rules.proofs.Shares.{none_yet}
 
 pub ruby_total_small : (n s : ℕ) → n ≤ most_ruby → s ≤ largest_size → ruby_total n s ≤ largest_advance
@@ -37,7 +33,7 @@ shift_only d = omega arith
 pub shift_small : (d n k : ℕ) → k < n → shift d n k ≤ d
 unfolding shift
 shift_small d n k h =
-    elim (tested (leb 2 n)) [
+    elim (cases_Bool (leb 2 n)) [
       | inl e ↦ rw e (div-le_of_le-mul (n - 1) (rw (mul_comm (n - 1) d) (mul-le-mul_left d (omega arith))))
       | inr e ↦ rw e (omega arith)
     ]
@@ -86,3 +82,23 @@ ruby_ok_bounds base n s k e =
       size = (size_bounds s t.0).most;
       character = ltb-true k n q.1;
     }
+
+pub size_most : (s : ℕ) → size_ok s ≡ true → s ≤ largest_size
+size_most s h = (size_bounds s h).most
+
+-- ruby place, as it is refused and as it is answered
+pub place_refused : (base n s k : ℕ) → ruby_ok base n s k ≡ false → (8, 0) ≡ ruby_place base n s k
+unfolding ruby_place
+place_refused base n s k h = rw h
+
+pub place_answered : (base n s k : ℕ) → ruby_ok base n s k ≡ true →
+    (0, ruby_offset base n s k) ≡ ruby_place base n s k
+unfolding ruby_place
+place_answered base n s k h = rw h
+
+-- what the functions of a group's rows rest on
+pub ruleset shift_laws = (shift_small, shift_product)
+
+pub ruleset row_laws = (shift_small, ruby_total_small)
+
+pub ruleset ruby_laws = (ruby_ok_bounds, shift_small, ruby_total_small, place_refused, place_answered)

@@ -1,33 +1,28 @@
 -- The breaking: where every run fits, the lines are a choice of permitted breaks in which every line fits.
 -- Assumes nothing.
-use mathlib.Core.Path.{◌≡◌, refl, ap, sym, subst, ◌∙◌}
-use Prim.Native.Nat.{ℕ, ◌+◌, ◌≤◌}
-use native.Mathlib.Omega.{arith}
-use mathlib.Core.List.{List, [], ◌∷◌, ◌++◌, append_assoc, append-nil}
-use mathlib.Core.Logic.{inl, inr}
-use mathlib.Core.Option.{none, some}
-use lib.Dec.{leb}
-use borrow.Author.Tests.{leb-true, le-leb}
+use Rattle.std.proofs.Common.{◌≡◌, refl, ap, sym, subst, ◌∙◌, ℕ, ◌+◌, ◌≤◌, arith, List, [], ◌∷◌, ◌++◌, append_assoc}
+use Rattle.std.proofs.Common.{append-nil, inl, inr, None, Some, leb, leb-true, le-leb}
 use Rattle.rules.specs.Basics.{Run, alone, whole, extended, joined, link, cut}
 use Rattle.rules.specs.Groups.{TextUnit, advance, counts}
 use Rattle.rules.specs.Gaps.{least}
 use Rattle.rules.specs.Breaks.{forbidden_between, gap, smallest, width, runs, wide_run, no_breaking, filled}
 use Rattle.rules.specs.Breaks.{breaking}
 use Rattle.rules.specs.Meanings.{Apart, apart_none, apart_more, Choice, Fits, fits_none, fits_more}
-use Rattle.rules.proofs.Decisions.{tested, some_none}
+use Rattle.std.proofs.lemmas.Bool.{cases_Bool}
+use Rattle.std.proofs.lemmas.Option.{none-some}
 use Rattle.rules.proofs.Cuts.{last_append, cut_joined, cut_apart, apart_alike, cut_first, cut_split}
 
 -- no run is named exactly where every run fits
-runs_fit : (m x i : ℕ) (ls : List (Run TextUnit)) → wide_run m x i ls ≡ none → Fits m x ls
+runs_fit : (m x i : ℕ) (ls : List (Run TextUnit)) → wide_run m x i ls ≡ None → Fits m x ls
 unfolding wide_run
 runs_fit m x i [] h = fits_none
 runs_fit m x i (l ∷ ls) h =
-    elim (tested (leb (x + width l) m)) [
+    elim (cases_Bool (leb (x + width l) m)) [
       | inl e ↦ fits_more (leb-true _ _ e) (runs_fit m 0 _ ls (rw (e, wide_run) at h))
-      | inr e ↦ let z : some i ≡ none = rw (e, wide_run) at h in absurd (some_none z)
+      | inr e ↦ let z : Some i ≡ None = rw (e, wide_run) at h in absurd (none-some _ (sym z))
     ]
 
-pub fit_runs : (m x i : ℕ) (ls : List (Run TextUnit)) → Fits m x ls → wide_run m x i ls ≡ none
+pub fit_runs : (m x i : ℕ) (ls : List (Run TextUnit)) → Fits m x ls → wide_run m x i ls ≡ None
 unfolding wide_run
 fit_runs m x i [] f = refl
 fit_runs m x i (l ∷ ls) (fits_more h f) = rw (le-leb _ _ h, wide_run) (fit_runs m 0 (i + counts (whole l)) ls f)
@@ -37,7 +32,7 @@ link_fits : (m x : ℕ) (u : TextUnit) (l : Run TextUnit) (ls : List (Run TextUn
     Fits m x (link forbidden_between u (l ∷ ls))
 unfolding smallest
 link_fits m x u l ls a (fits_more h f) g =
-    elim (tested (forbidden_between u l.first)) [
+    elim (cases_Bool (forbidden_between u l.first)) [
       | inl e ↦ let n : x + width (extended (alone u) l) ≤ m = omega arith in rw e (fits_more n f)
       | inr e ↦ rw e (fits_more a g)
     ]
@@ -79,7 +74,7 @@ filled_fits : (m x : ℕ) (l : Run TextUnit) (ks : List (Run TextUnit)) → x + 
 unfolding filled
 filled_fits m x l [] h f = fits_more h f
 filled_fits m x l (k ∷ ks) h (fits_more g f) =
-    elim (tested (leb (x + width (extended l k)) m)) [
+    elim (cases_Bool (leb (x + width (extended l k)) m)) [
       | inl e ↦ rw (e, filled) (filled_fits m x (extended l k) ks (leb-true _ _ e) f)
       | inr e ↦ rw (e, filled) (fits_more h (filled_fits m 0 k ks g f))
     ]
@@ -94,7 +89,7 @@ pub filled_joined : (m x : ℕ) (l : Run TextUnit) (ks : List (Run TextUnit)) �
 unfolding filled joined
 filled_joined m x l [] = refl
 filled_joined m x l (k ∷ ks) =
-    elim (tested (leb (x + width (extended l k)) m)) [
+    elim (cases_Bool (leb (x + width (extended l k)) m)) [
       | inl e ↦ rw (e, filled) (filled_joined m x (extended l k) ks ∙ simp append_assoc)
       | inr e ↦ rw (e, filled) (ap (λ t. whole l ++ t) (filled_joined m 0 k ks))
     ]
@@ -110,7 +105,7 @@ pub filled_first : (m x : ℕ) (l : Run TextUnit) (ks : List (Run TextUnit)) →
 unfolding filled
 filled_first m x l [] = (l, [], refl, refl)
 filled_first m x l (k ∷ ks) =
-    elim (tested (leb (x + width (extended l k)) m)) [
+    elim (cases_Bool (leb (x + width (extended l k)) m)) [
       | inl e ↦ let f = filled_first m x (extended l k) ks in (f.0, f.1, (rw (e, filled) f.2), f.3)
       | inr e ↦ (l, filled m 0 k ks, (rw (e, filled)), refl)
     ]
@@ -120,7 +115,7 @@ filled_apart : (m x : ℕ) (l : Run TextUnit) (ks : List (Run TextUnit)) → Apa
 unfolding filled
 filled_apart m x l [] h = h
 filled_apart m x l (k ∷ ks) (apart_more g h) =
-    elim (tested (leb (x + width (extended l k)) m)) [
+    elim (cases_Bool (leb (x + width (extended l k)) m)) [
       | inl e ↦
           let last = sym (last_append l.first l.rest k.first k.rest) in
           rw (e, filled) (filled_apart m x (extended l k) ks (apart_alike forbidden_between last h))
@@ -144,6 +139,6 @@ breaking_choice m x us =
       permitted = breaking_apart m x (runs us) (cut_apart forbidden_between us);
     }
 
-pub lines_fit : (m x : ℕ) (us : List TextUnit) → no_breaking m x us ≡ none → Fits m x (breaking m x (runs us))
+pub lines_fit : (m x : ℕ) (us : List TextUnit) → no_breaking m x us ≡ None → Fits m x (breaking m x (runs us))
 unfolding no_breaking
 lines_fit m x us h = breaking_fits m x (runs us) (runs_fit m x 0 (runs us) h)

@@ -1,17 +1,11 @@
 -- Where a line of the breaking begins: what stands before it is filled as before, whatever no narrower run comes next,
 -- and what stands from there on is filled by itself, from 0. Assumes nothing.
-use mathlib.Core.Path.{◌≡◌, refl, ap, ◌∙◌}
-use Prim.Native.Nat.{ℕ, zero, suc, ◌+◌, ◌≤◌, ◌<◌}
-use native.Mathlib.Omega.{arith}
-use mathlib.Core.Bool.{true, false}
-use mathlib.Core.List.{List, [], ◌∷◌, ◌++◌, append_assoc}
-use mathlib.Core.Logic.{inl, inr}
-use lib.Dec.{leb}
-use lib.ListN.{length, take, drop}
+use Rattle.std.proofs.Common.{◌≡◌, refl, ap, ◌∙◌, ℕ, zero, suc, ◌+◌, ◌≤◌, ◌<◌, arith, true, false, List, [], ◌∷◌}
+use Rattle.std.proofs.Common.{◌++◌, append_assoc, inl, inr, leb, length, take, drop}
 use Rattle.rules.specs.Basics.{Run, whole, extended, joined}
 use Rattle.rules.specs.Groups.{TextUnit, counts}
 use Rattle.rules.specs.Breaks.{width, filled}
-use Rattle.rules.proofs.Decisions.{tested}
+use Rattle.std.proofs.lemmas.Bool.{cases_Bool}
 use Rattle.rules.proofs.NoBreaking.{counts_append}
 use Rattle.rules.proofs.Growing.{NoEasier}
 
@@ -67,7 +61,7 @@ pub stop_at : (m x : ℕ) (l : Run TextUnit) (ks : List (Run TextUnit)) (n : ℕ
 unfolding filled
 stop_at m x l [] n h = absurd (omega arith)
 stop_at m x l (k ∷ ks) n h =
-    elim (tested (leb (x + width (extended l k)) m)) [
+    elim (cases_Bool (leb (x + width (extended l k)) m)) [
       | inl e ↦
           let s = stop_at m x (extended l k) ks n (rw (e, filled) at h) in
           stop_more s (rw (e, filled) (stops_fits e s.stops)) (rw (e, filled))
@@ -96,7 +90,7 @@ pub filled_holds : (m x : ℕ) (l : Run TextUnit) (ks : List (Run TextUnit)) →
 unfolding filled joined
 filled_holds m x l [] = omega (arith, counts_append (whole l) [])
 filled_holds m x l (k ∷ ks) =
-    elim (tested (leb (x + width (extended l k)) m)) [
+    elim (cases_Bool (leb (x + width (extended l k)) m)) [
       | inl e ↦
           rw (e, filled)
           (omega (arith, filled_holds m x (extended l k) ks, counts_append (whole l) (whole k)))

@@ -1,12 +1,7 @@
--- What is proved of document 01's rules, as document 02's requests amend them, in reading order: each claim is stated
--- in the words of specs/Meanings.antt and proved by one citation. Assumes nothing.
-use mathlib.Core.Path.{◌≡◌, refl, ◌∙◌, sym}
-use Prim.Native.Nat.{ℕ, ◌+◌, ◌-◌, ◌/◌, ◌≤◌, ◌<◌}
-use mathlib.Core.Bool.{Bool, true, false}
-use mathlib.Core.List.{List, ◌∷◌, ◌++◌, map}
-use mathlib.Core.Logic.{◌↔◌}
-use mathlib.Core.Option.{none, some}
-use lib.ListN.{length, get_or}
+-- What is proved of the rules of docs/RULES.md, in reading order: each claim is stated in the words of
+-- specs/Meanings.antt and proved by one citation. Assumes nothing.
+use Rattle.std.proofs.Common.{◌≡◌, refl, ◌∙◌, sym, ℕ, ◌+◌, ◌-◌, ◌/◌, ◌≤◌, ◌<◌, Bool, true, false, List, ◌∷◌, ◌++◌}
+use Rattle.std.proofs.Common.{map, ◌↔◌, None, Some, length, get_or}
 -- the definitions
 use Rattle.lists.specs.Lists.{lists}
 use Rattle.rules.specs.Basics.{Run, whole}
@@ -43,7 +38,7 @@ use Rattle.rules.proofs.ListedCases.{listings, listings_hold}
 use Rattle.rules.proofs.RedoneCases.{edit_rows, edits_right, edit_cases_hold}
 use Rattle.rules.proofs.PoolCases.{takes, answered, wanted_answer, takes_hold, calls, numbered, due, calls_hold}
 -- the laws that prove it, in the order of the claims
-use Rattle.rules.proofs.Decisions.{some_none}
+use Rattle.std.proofs.lemmas.Option.{none-some}
 use Rattle.rules.proofs.Judged.{judged_passes}
 use Rattle.rules.proofs.Listed.{class_in, classes_listed, all_listed, first_not_listed}
 use Rattle.rules.proofs.LineOpenings.{comma_not_at_start, no_line_opens}
@@ -67,23 +62,26 @@ use Rattle.rules.proofs.Resuming.{resumes_exactly}
 use Rattle.rules.proofs.RedoneLines.{edit_stable}
 use Rattle.rules.proofs.OwnSlots.{lowest}
 -- the contracts of the code
-use Rattle.rules.proofs.spacing.spacing_table.Statement as spacing_table_contract
-use Rattle.rules.proofs.spacing.spacing_table.Met as spacing_table_met
+use Rattle.rules.specs.Tables.{cell_numbers}
+use Rattle.rules.specs.declared.spacing.TheConstants.{SPACING}
+use Rattle.rules.proofs.SpacingTable.{table_ruled}
+use Rattle.rules.proofs.spacing.cell_between.Statement as cell_between_contract
+use Rattle.rules.proofs.spacing.cell_between.Met as cell_between_met
 use Rattle.rules.proofs.groups.ruby_place.Statement as ruby_place_contract
 use Rattle.rules.proofs.groups.ruby_place.Met as ruby_place_met
 
--- Lists, request 04 ------------------------------------------------------------------------------------------------
+-- Lists ------------------------------------------------------------------------------------------------------------
 
 -- the eighteen classes are those that have a list
 pub lists_of_classes : map class_in lists ≡ classes
 lists_of_classes = classes_listed
 
 -- answer 12 is not due exactly where each record's code point stands in the list of its class
-pub no_12_exactly : (rs : List Rec) → (not_listed 0 rs ≡ none) ↔ All Listed rs
+pub no_12_exactly : (rs : List Rec) → (not_listed 0 rs ≡ None) ↔ All Listed rs
 no_12_exactly rs = all_listed rs
 
 -- and is due, with its place, exactly where that is the first record of which this is not so
-pub answer_12_exactly : (rs : List Rec) (i : ℕ) → (not_listed 0 rs ≡ some i) ↔ FirstLacking Listed rs i
+pub answer_12_exactly : (rs : List Rec) (i : ℕ) → (not_listed 0 rs ≡ Some i) ↔ FirstLacking Listed rs i
 answer_12_exactly rs i = first_not_listed rs i
 
 -- so the code point of each record that is accepted in some measure stands in the list of its class
@@ -99,7 +97,7 @@ no_line_opens_with k m x rs n h = no_line_opens k m x rs n h
 pub comma_never_opens : NeverOpens 0x3001
 comma_never_opens = comma_not_at_start
 
--- the cases of request 04 come out as they were worked by hand
+-- the cases come out as they were worked by hand
 pub listed_by_hand : right listings ≡ true
 listed_by_hand = listings_hold
 
@@ -128,7 +126,7 @@ base_row_within u rs r qs e = base_within u rs r qs e
 pub ruby_row_within : (base n s k : ℕ) → k < n → ruby_offset base n s k + s / 2 ≤ group_advance base n s
 ruby_row_within base n s k h = ruby_within base n s k h
 
--- request 06: with two or more items, either row starts and ends with the group, and only its inner gaps open, evenly
+-- with two or more items, either row starts and ends with the group, and only its inner gaps open, evenly
 pub base_row_between : (u : TextUnit) → 2 ≤ count u → SpaceBetween (count u) (offset_of u) (advance_of u) (advance u)
 base_row_between u many = base_between u many
 
@@ -169,35 +167,35 @@ runs_boundaries u us v vs = boundary_exact forbidden_between u us v vs
 
 -- answer 10 is not due exactly where some choice of permitted breaks has every line within the measure
 pub no_10_exactly : (m x : ℕ) (us : List TextUnit) →
-    (no_breaking m x us ≡ none) ↔ ((ls : List (Run TextUnit)) × Choice us ls × Fits m x ls)
+    (no_breaking m x us ≡ None) ↔ ((ls : List (Run TextUnit)) × Choice us ls × Fits m x ls)
 no_10_exactly m x us = breaking_exists m x us
 
 -- so it is due exactly where there is none
 pub answer_10_exactly : (m x : ℕ) (us : List TextUnit) →
-    ((i : ℕ) × (no_breaking m x us ≡ some i)) ↔ (((ls : List (Run TextUnit)) × Choice us ls × Fits m x ls) → ⊥)
+    ((i : ℕ) × (no_breaking m x us ≡ Some i)) ↔ (((ls : List (Run TextUnit)) × Choice us ls × Fits m x ls) → ⊥)
 answer_10_exactly m x us = due_exactly m x us
 
 -- where it is due there is no such choice, and its place is the first record of the first run that is too wide
-pub answer_10 : (m x : ℕ) (us : List TextUnit) (i : ℕ) → no_breaking m x us ≡ some i →
+pub answer_10 : (m x : ℕ) (us : List TextUnit) (i : ℕ) → no_breaking m x us ≡ Some i →
     (((ls : List (Run TextUnit)) × Choice us ls × Fits m x ls) → ⊥) × FirstWide m x (runs us) i
-answer_10 m x us i h = (λ c. some_none (sym h ∙ (breaking_exists m x us).1 c), place_of_10 m x us i h)
+answer_10 m x us i h = (λ c. none-some _ (sym ((breaking_exists m x us).1 c) ∙ h), place_of_10 m x us i h)
 
 -- where it is not due the lines are such a choice, every line fits, and each is the longest
-pub lines_chosen : (m x : ℕ) (us : List TextUnit) → no_breaking m x us ≡ none →
+pub lines_chosen : (m x : ℕ) (us : List TextUnit) → no_breaking m x us ≡ None →
     Choice us (breaking m x (runs us)) × Fits m x (breaking m x (runs us)) × Longest m x (breaking m x (runs us))
 lines_chosen m x us h = (breaking_choice m x us, lines_fit m x us h, lines_longest m x us)
 
 -- and no other lines are
 pub lines_only : (m x : ℕ) (us : List TextUnit) (ls : List (Run TextUnit)) → Choice us ls → Fits m x ls →
     Longest m x ls →
-    no_breaking m x us ≡ none → ls ≡ breaking m x (runs us)
+    no_breaking m x us ≡ None → ls ≡ breaking m x (runs us)
 lines_only m x us ls c f l h =
     let b = breaking_choice m x us in
     only_lines m x ls (breaking m x (runs us)) (c.joins_up
     ∙ sym b.joins_up) c.permitted b.permitted f (lines_fit m x us h) l
     (lines_longest m x us)
 
--- request 01: between a class 27 and a class 13 a break is forbidden exactly after a digit
+-- between a class 27 and a class 13 a break is forbidden exactly after a digit
 pub digit_holds_exactly : (l r : Side) → l.class ≡ 27 → r.class ≡ 13 → forbidden l r ≡ arabic_digit l.code
 digit_holds_exactly l r e f = digit_decides l r e f
 
@@ -207,14 +205,18 @@ postfix_kept m x us = lines_keep_postfix m x us
 
 -- Spaces -----------------------------------------------------------------------------------------------------------
 
--- request 02: the entry of the spacing table between two classes sets the gap that the rules set, whatever the sizes
+-- the entry of the spacing table between two classes sets the gap that the rules set, whatever the sizes
 pub table_agrees : (L R : ℕ) → class_ok L ≡ true → class_ok R ≡ true → (l r w : ℕ) →
     gap_set (named (cell_in spacing_table L R)) l r w ≡ gap_by (flexibility (rule_of L R) L) (space_of L R) l r w
 table_agrees L R h k l r w = table_gap L R h k l r w
 
--- and the program's table is that one
-pub spacing_table_meets : {M : Type 1} → spacing_table_contract.statement M
-spacing_table_meets = spacing_table_met.met
+-- and the program's table is that one, cell by cell
+pub spacing_table_meets : cell_numbers SPACING ≡ spacing_table
+spacing_table_meets = table_ruled
+
+-- in which it finds the cell of any two classes
+pub cell_between_meets : {M : Type 1} → cell_between_contract.statement M
+cell_between_meets = cell_between_met.met
 
 -- gaps in one word add up by one addition, and a word tells the gap, or the sum of up to 255, that it holds
 pub one_addition : (g h : Gap) → Packs g → Packs h → packed g + packed h ≡ packed (plus g h)
@@ -260,7 +262,7 @@ pub final_line : (m x : ℕ) (l : Run TextUnit) → x + width l ≤ m → natura
 final_line m x l fits h = final_ends m x l fits h
 
 -- Lines redone -----------------------------------------------------------------------------------------------------
--- request 03, of an edit's old and new lines
+-- of an edit's old and new lines
 
 -- k is the old line that holds the place, or the last if the place is the end, or 0 if there are none
 pub k_holds : (m x : ℕ) (rs : List Rec) (place : ℕ) →
@@ -289,7 +291,7 @@ pub lines_stable : (m x : ℕ) (rs : List Rec) (place deleted : ℕ) (ins : List
 lines_stable m x rs place deleted ins fits = edit_stable m x rs place deleted ins fits
 
 -- Slots taken ------------------------------------------------------------------------------------------------------
--- request 07, of slots by their settings
+-- of slots by their settings
 
 -- what a take is granted is the lowest-numbered slot that is the clinic's and free; none, where none is
 pub lowest_free_found : (settings : ℕ → Setting) (clinic k n : ℕ) →
@@ -302,11 +304,11 @@ lowest_free_found settings clinic k n = lowest settings clinic k n
 pub composed_by_hand : right rows ≡ true
 composed_by_hand = cases_hold
 
--- request 01: a digit and the % or ℃ after it
+-- a digit and the % or ℃ after it
 pub percent_by_hand : right percents ≡ true
 percent_by_hand = percents_hold
 
--- request 06: the two rows of a group
+-- the two rows of a group
 pub rows_by_hand : right group_rows ≡ true
 rows_by_hand = group_rows_hold
 
@@ -314,11 +316,11 @@ rows_by_hand = group_rows_hold
 pub pairs_by_hand : map ruled pairs ≡ map wanted pairs
 pairs_by_hand = pairs_hold
 
--- request 03: the lines that an edit composes anew
+-- the lines that an edit composes anew
 pub edits_by_hand : edits_right edit_rows ≡ true
 edits_by_hand = edit_cases_hold
 
--- request 07: takes, and calls on slots in use and not in use
+-- takes, and calls on slots in use and not in use
 pub takes_by_hand : map answered takes ≡ map wanted_answer takes
 takes_by_hand = takes_hold
 

@@ -1,8 +1,6 @@
--- Document 01, "Composed by hand": the cases C1 to C13 as one table, with one claim over all rows that the checker
+-- docs/RULES.md, "Composed by hand": the cases C1 to C13 as one table, with one claim over all rows that the checker
 -- computes; and C3 with every word of its slot. What a row wants is told in WorkedCases.antt. Assumes nothing.
-use mathlib.Core.Path.{◌≡◌, refl}
-use mathlib.Core.Bool.{true}
-use mathlib.Core.List.{List, [], ◌∷◌, ◌++◌}
+use Rattle.std.proofs.Common.{◌≡◌, refl, true, List, [], ◌∷◌, ◌++◌}
 use Rattle.rules.specs.Basics.{zeros}
 use Rattle.rules.specs.Records.{Rec, record_words}
 use Rattle.rules.specs.Sheet.{setting, slot_words}
@@ -61,7 +59,7 @@ rows =
     ∷ row 400 (ruby3 ∷ []) (0 ∷ 1 ∷ 20 ∷ 0 ∷ 0 ∷ 120 ∷ 3 ∷ 0 ∷ 40 ∷ 80 ∷ [])
     ∷ []
 
--- every row comes out as document 01 has it
+-- every row comes out as docs/RULES.md, "Composed by hand", has it
 pub cases_hold : right rows ≡ true
 unfolding worked rows
 cases_hold = refl

@@ -1,19 +1,14 @@
 -- A table's rule, proved once: where a table is the list of a definition's values, as the checker sees by computing,
 -- each entry is the definition's value at its place. And a test over a list, which holds of each of its numbers.
 -- Assumes nothing.
-use mathlib.Core.Path.{◌≡◌, sym}
-use Prim.Native.Nat.{ℕ, zero, suc, ◌+◌, ◌<◌}
-use native.Mathlib.Nat.{add-zero, zero-add, add-suc, suc-add, le_of_suc-le-suc, not-suc-le-zero}
-use mathlib.Core.Bool.{Bool, true, ◌&&◌, and-eq-true_iff}
-use mathlib.Core.List.{List, [], ◌∷◌, map}
-use mathlib.Core.Logic.{inl, inr}
-use lib.Dec.{eqb}
-use lib.ListN.{get_or}
-use borrow.Author.Tests.{eqb-true}
+use Rattle.std.proofs.Common.{◌≡◌, sym, ℕ, zero, suc, ◌+◌, ◌<◌, add-zero, zero-add, add-suc, suc-add}
+use Rattle.std.proofs.Common.{le_of_suc-le-suc, not-suc-le-zero, Bool, true, ◌&&◌, List, [], ◌∷◌, map, inl, inr, eqb}
+use Rattle.std.proofs.Common.{get_or, eqb-true}
+use Rattle.std.proofs.Math.Bool.{and-eq-true_iff}
 use Rattle.rules.specs.Basics.{is_in, tabled}
 use Rattle.rules.specs.Records.{index_in}
 use Rattle.rules.specs.Meanings.{All, all_none, all_more}
-use Rattle.rules.proofs.Decisions.{tested, true_false}
+use Rattle.std.proofs.lemmas.Bool.{cases_Bool, true≢false}
 
 tabled_from : {A : Type 0} (g : ℕ → A) (d : A) (i n k : ℕ) → k < n → get_or (tabled g i n) k d ≡ g (i + k)
 tabled_from g d i zero k h = absurd (not-suc-le-zero h)
@@ -30,9 +25,9 @@ all_of t (k ∷ ks) = t k && all_of t ks
 
 -- what holds of each number of a list holds of a number that is in it
 pub holds_in : {P : ℕ → Type 0} {ks : List ℕ} → All P ks → (c : ℕ) → is_in c ks ≡ true → P c
-holds_in all_none c e = absurd (true_false (sym e))
+holds_in all_none c e = absurd (true≢false (sym e))
 holds_in (all_more {a = k} p h) c e =
-    elim (tested (eqb c k)) [ inl q ↦ rw (eqb-true c k q) p | inr q ↦ holds_in h c (rw q at e) ]
+    elim (cases_Bool (eqb c k)) [ inl q ↦ rw (eqb-true c k q) p | inr q ↦ holds_in h c (rw q at e) ]
 
 pub all_at : (t : ℕ → Bool) (ks : List ℕ) → all_of t ks ≡ true → (c : ℕ) → is_in c ks ≡ true → t c ≡ true
 all_at t ks h c e = holds_in (all_hold ks h) c e
@@ -52,9 +47,9 @@ pairs_at t ks h c d e f = all_at (λ j. t c j) ks (all_at (λ k. all_of (λ j. t
 -- what a definition has for a number of a list stands at the number's place
 pub map_at : {A : Type 0} (g : ℕ → A) (d : A) (ks : List ℕ) (c : ℕ) → is_in c ks ≡ true →
     get_or (map g ks) (index_in c ks) d ≡ g c
-map_at g d [] c e = absurd (true_false (sym e))
+map_at g d [] c e = absurd (true≢false (sym e))
 map_at g d (k ∷ ks) c e =
-    elim (tested (eqb c k)) [
+    elim (cases_Bool (eqb c k)) [
       | inl q ↦ rw (q, eqb-true c k q)
       | inr q ↦ rw q (map_at g d ks c (rw q at e))
     ]

@@ -1,12 +1,10 @@
 -- Laws of `cut` on a part of a list: what stands before a boundary, what stands after it, and what a longer list
 -- changes. Assumes nothing.
-use mathlib.Core.Path.{◌≡◌, refl, ap, sym, ◌∙◌}
-use mathlib.Core.Bool.{Bool, true, false}
-use mathlib.Core.List.{List, [], ◌∷◌, ◌++◌}
-use mathlib.Core.Logic.{inl, inr}
+use Rattle.std.proofs.Common.{◌≡◌, refl, ap, sym, ◌∙◌, Bool, true, false, List, [], ◌∷◌, ◌++◌, inl, inr}
 use Rattle.rules.specs.Basics.{Run, whole, joined, link, cut}
 use Rattle.rules.specs.Meanings.{All, last_in, Apart, apart_none, apart_one, apart_more}
-use Rattle.rules.proofs.Decisions.{tested, true_false, unmet, cons_path}
+use Rattle.std.proofs.lemmas.Bool.{cases_Bool, true≢false, false_from_ne_true}
+use Rattle.rules.proofs.Decisions.{cons_path}
 use Rattle.rules.proofs.All.{all_front, all_back, all_first, all_append}
 use Rattle.rules.proofs.Cuts.{joined_append, cut_joined, cut_linked, cut_apart, cut_tail, maximal_only}
 use Rattle.rules.proofs.Cuts.{cut_first}
@@ -19,7 +17,8 @@ apart_where s t f h apart_none = apart_none
 apart_where s t f h apart_one = apart_one
 apart_where s t f h (apart_more {l = l} {k = k} {ls = ls} e hs) =
     let g = all_back (whole l) (joined (k ∷ ls)) h in
-    apart_more (unmet (λ p. true_false (sym (f (last_in l) k.first (all_first g) p) ∙ e))) (apart_where s t f g hs)
+    apart_more (false_from_ne_true _ (λ p. true≢false (sym (f (last_in l) k.first (all_first g) p) ∙ e)))
+    (apart_where s t f g hs)
 
 -- runs that grew at their end: the last of them has further elements, and further runs follow it
 pub data Grown {A : Type 0} : List (Run A) → List (Run A) → Type 0 where
@@ -79,14 +78,14 @@ module _ {A : Type 0} (t : A → A → Bool) where
 
   link_grown : (a : A) {ls ks : List (Run A)} → Grown ls ks → Grown (link t a ls) (link t a ks)
   link_grown a (grown_last {l} {k} es p q) =
-      elim (tested (t a l.first)) [
+      elim (cases_Bool (t a l.first)) [
         | inl e ↦ rw (p, e) (grown_last es refl (cons_path refl q))
         | inr e ↦
             let d : t a k.first ≡ false = ap (λ b. t a b) p ∙ e in
             rw (e, d) (grown_more (grown_last es p q))
       ]
   link_grown a (grown_more {l} g) =
-      elim (tested (t a l.first)) [ inl e ↦ rw e (grown_more g) | inr e ↦ rw e (grown_more (grown_more g)) ]
+      elim (cases_Bool (t a l.first)) [ inl e ↦ rw e (grown_more g) | inr e ↦ rw e (grown_more (grown_more g)) ]
 
   -- elements after a list change its last run only
   pub cut_grows : (a : A) (bs qs : List A) → Grown (cut t (a ∷ bs)) (cut t (a ∷ bs ++ qs))

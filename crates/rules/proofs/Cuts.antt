@@ -1,14 +1,12 @@
 -- Laws of `cut`: it gives the maximal runs of linked neighbours, and no others. Assumes nothing.
-use mathlib.Core.Path.{◌≡◌, refl, ap, sym, ◌∙◌}
-use mathlib.Core.Bool.{Bool, true, false}
-use mathlib.Core.List.{List, [], ◌∷◌, ◌++◌, append_assoc, append-nil}
-use mathlib.Core.Logic.{inl, inr, ◌↔◌}
-use lib.Dec.{eqb}
-use borrow.Author.Tests.{eqb-true, eqb-false}
+use Rattle.std.proofs.Common.{◌≡◌, refl, ap, sym, ◌∙◌, Bool, true, false, List, [], ◌∷◌, ◌++◌, append_assoc}
+use Rattle.std.proofs.Common.{append-nil, inl, inr, ◌↔◌, eqb, eqb-true}
+use borrow.Author.Tests.{eqb-false}
 use Rattle.rules.specs.Basics.{Run, alone, whole, extended, joined, link, cut}
 use Rattle.rules.specs.Records.{Rec}
 use Rattle.rules.specs.Groups.{TextUnit, same_group, units}
-use Rattle.rules.proofs.Decisions.{tested, true_false, nil_cons}
+use Rattle.std.proofs.lemmas.Bool.{cases_Bool, true≢false}
+use Rattle.rules.proofs.Decisions.{nil_cons}
 use Rattle.rules.specs.Meanings.{All, all_none, all_more, last_of, last_in, Linked, linked_one, linked_more}
 use Rattle.rules.specs.Meanings.{LinkedRun}
 use Rattle.rules.specs.Meanings.{Apart, apart_none, apart_one, apart_more, Maximal, Boundary, OneUnit, single}
@@ -29,7 +27,7 @@ module _ {A : Type 0} (t : A → A → Bool) where
   link_joined : (a : A) (ls : List (Run A)) → joined (link t a ls) ≡ a ∷ joined ls
   unfolding joined
   link_joined a [] = refl
-  link_joined a (l ∷ ls) = elim (tested (t a l.first)) [ inl e ↦ rw e | inr e ↦ rw e ]
+  link_joined a (l ∷ ls) = elim (cases_Bool (t a l.first)) [ inl e ↦ rw e | inr e ↦ rw e ]
 
   pub cut_joined : (ps : List A) → joined (cut t ps) ≡ ps
   unfolding cut joined
@@ -39,7 +37,7 @@ module _ {A : Type 0} (t : A → A → Bool) where
   link_linked : (a : A) {ls : List (Run A)} → All (LinkedRun t) ls → All (LinkedRun t) (link t a ls)
   link_linked a all_none = all_more linked_one all_none
   link_linked a (all_more {a = l} h hs) =
-      elim (tested (t a l.first)) [
+      elim (cases_Bool (t a l.first)) [
         | inl e ↦ rw e (all_more (linked_more e h) hs)
         | inr e ↦ rw e (all_more linked_one (all_more h hs))
       ]
@@ -57,7 +55,7 @@ module _ {A : Type 0} (t : A → A → Bool) where
   link_apart : (a : A) (ls : List (Run A)) → Apart t ls → Apart t (link t a ls)
   link_apart a [] h = apart_one
   link_apart a (l ∷ ls) h =
-      elim (tested (t a l.first)) [ inl e ↦ rw e (apart_alike refl h) | inr e ↦ rw e (apart_more e h) ]
+      elim (cases_Bool (t a l.first)) [ inl e ↦ rw e (apart_alike refl h) | inr e ↦ rw e (apart_more e h) ]
 
   pub cut_apart : (ps : List A) → Apart t (cut t ps)
   unfolding cut
@@ -106,13 +104,13 @@ module _ {A : Type 0} (t : A → A → Bool) where
       from : (ls : List (Run A)) → (l : Run A) × (ks : List (Run A)) × (link t a ls ≡ l ∷ ks) × (l.first ≡ a)
       from [] = (alone a, [], refl, refl)
       from (l ∷ ls) =
-          elim (tested (t a l.first)) [
+          elim (cases_Bool (t a l.first)) [
             | inl e ↦ (extended (alone a) l, ls, (rw e), refl)
             | inr e ↦ (alone a, l ∷ ls, (rw e), refl)
           ]
 
   link_append : (a : A) (l : Run A) (ls ks : List (Run A)) → link t a (l ∷ ls) ++ ks ≡ link t a ((l ∷ ls) ++ ks)
-  link_append a l ls ks = elim (tested (t a l.first)) [ inl e ↦ rw e | inr e ↦ rw e ]
+  link_append a l ls ks = elim (cases_Bool (t a l.first)) [ inl e ↦ rw e | inr e ↦ rw e ]
 
   -- at apart neighbours a list is cut
   pub cut_split : (a : A) (bs : List A) (c : A) (cs : List A) → t (last_of a bs) c ≡ false →
@@ -165,8 +163,8 @@ module _ {A : Type 0} (t : A → A → Bool) where
 -- records of one group
 same_group_is : (p r : Rec) → same_group p r ≡ true → (r.group ≡ 0 → ⊥) × (p.group ≡ r.group)
 same_group_is p r e =
-    elim (tested (eqb r.group 0)) [
-      | inl z ↦ let f : false ≡ true = rw z at e in absurd (true_false (sym f))
+    elim (cases_Bool (eqb r.group 0)) [
+      | inl z ↦ let f : false ≡ true = rw z at e in absurd (true≢false (sym f))
       | inr z ↦ (eqb-false _ _ z, eqb-true p.group r.group (rw z at e))
     ]
 

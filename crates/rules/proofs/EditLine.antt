@@ -1,16 +1,10 @@
--- Document 02, request 03: what k and f are. Assumes nothing.
-use mathlib.Core.Path.{◌≡◌, refl, ap, ◌∙◌}
-use Prim.Native.Nat.{ℕ, zero, suc, ◌-◌, ◌≤◌, ◌<◌, min}
-use native.Mathlib.Omega.{arith}
-use mathlib.Core.List.{List, [], ◌∷◌}
-use mathlib.Core.Logic.{inl, inr}
-use lib.Dec.{ltb}
-use lib.ListN.{length, take, length-take}
-use borrow.Author.Tests.{ltb-true, ltb-false, lt-ltb, le-ltb}
+-- docs/RULES.md, "How many lines an edit composes anew": what k and f are. Assumes nothing.
+use Rattle.std.proofs.Common.{◌≡◌, refl, ap, ◌∙◌, ℕ, zero, suc, ◌-◌, ◌≤◌, ◌<◌, min, arith, List, [], ◌∷◌, inl, inr}
+use Rattle.std.proofs.Common.{ltb, length, take, length-take, ltb-true, ltb-false, lt-ltb, le-ltb}
 use Rattle.rules.specs.Adjustment.{Line}
 use Rattle.rules.specs.Redone.{start, holding, edit_line, first_redone}
 use Rattle.rules.specs.Stable.{Holds}
-use Rattle.rules.proofs.Decisions.{tested, ordered}
+use Rattle.std.proofs.lemmas.Bool.{cases_Bool, cases_lt}
 
 -- a line up to the one that holds record i starts at it or before it
 held : (i : ℕ) (ls : List Line) (j : ℕ) → j ≤ holding i ls → start j ls ≤ i
@@ -18,7 +12,7 @@ unfolding holding start
 held i ls zero h = omega arith
 held i [] (suc j) h = omega arith
 held i (l ∷ ls) (suc j) h =
-    elim (tested (ltb i l.count)) [
+    elim (cases_Bool (ltb i l.count)) [
       | inl e ↦ omega (arith, rw (e, holding) at h)
       | inr e ↦
           let g = held (i - l.count) ls j (omega (arith, rw (e, holding) at h)) in
@@ -30,7 +24,7 @@ holding_holds : (i : ℕ) (ls : List Line) → i < start (length ls) ls → Hold
 unfolding holding start
 holding_holds i [] h = absurd (omega arith)
 holding_holds i (l ∷ ls) h =
-    elim (tested (ltb i l.count)) [
+    elim (cases_Bool (ltb i l.count)) [
       | inl e ↦
           rw (e, holding) (omega (arith, ltb-true i l.count e))
       | inr e ↦
@@ -44,7 +38,7 @@ holding_end : (i : ℕ) (ls : List Line) → start (length ls) ls ≤ i → hold
 unfolding holding start
 holding_end i [] h = refl
 holding_end i (l ∷ ls) h =
-    elim (tested (ltb i l.count)) [
+    elim (cases_Bool (ltb i l.count)) [
       | inl e ↦ absurd (omega (arith, ltb-true i l.count e))
       | inr e ↦ rw (e, holding) (ap suc (holding_end (i - l.count) ls (omega (arith, ltb-false i l.count e))))
     ]
@@ -88,10 +82,10 @@ edit_line_only place old k h = omega (arith, holding_only place old k h, h.there
 pub edit_line_last : (place : ℕ) (old : List Line) (k : ℕ) → k < length old → start k old ≤ place →
     (suc k < length old → place < start (suc k) old) → edit_line place old ≡ k
 edit_line_last place old k there from to =
-    elim (ordered place (start (suc k) old)) [
+    elim (cases_lt place (start (suc k) old)) [
       | inl h ↦ edit_line_only place old k record { there = there; from = from; to = h }
       | inr h ↦
-          let e : length old ≡ suc k = elim (ordered (suc k) (length old)) [
+          let e : length old ≡ suc k = elim (cases_lt (suc k) (length old)) [
             | inl g ↦ absurd (omega (arith, to g))
             | inr g ↦ omega arith
           ] in

@@ -1,15 +1,11 @@
--- Document 02, request 03: r is the first line that passes its test, and no other is. Assumes nothing.
-use mathlib.Core.Path.{◌≡◌, sym, ◌∙◌}
-use Prim.Native.Nat.{ℕ, zero, suc, ◌+◌, ◌≤◌, ◌<◌}
-use native.Mathlib.Omega.{arith}
-use native.Mathlib.Nat.{add-zero, zero-add, add-suc, suc-add, add_assoc}
-use mathlib.Core.Bool.{Bool, false}
-use mathlib.Core.List.{List, [], ◌∷◌}
-use mathlib.Core.Logic.{inl, inr}
+-- docs/RULES.md, "How many lines an edit composes anew": r is the first line that passes its test, and no other is.
+-- Assumes nothing.
+use Rattle.std.proofs.Common.{◌≡◌, sym, ◌∙◌, ℕ, zero, suc, ◌+◌, ◌≤◌, ◌<◌, arith, add-zero, zero-add, add-suc, suc-add}
+use Rattle.std.proofs.Common.{add_assoc, Bool, false, List, [], ◌∷◌, inl, inr}
 use Rattle.rules.specs.Adjustment.{Line}
 use Rattle.rules.specs.Redone.{start, first_line, resumes, resumed}
 use Rattle.rules.specs.Stable.{FirstThat}
-use Rattle.rules.proofs.Decisions.{tested, ordered, true_false}
+use Rattle.std.proofs.lemmas.Bool.{cases_Bool, cases_lt, true≢false}
 
 -- of lines, the first of which is line j, starts at record i and does not pass
 first_later : (t : ℕ → ℕ → Bool) (j i : ℕ) (l : Line) (ls : List Line) (n : ℕ) → t j i ≡ false →
@@ -39,7 +35,7 @@ first_from t j i [] = (
   },
 )
 first_from t j i (l ∷ ls) =
-    elim (tested (t j i)) [
+    elim (cases_Bool (t j i)) [
       | inl e ↦ (
         0,
         rw (e, first_line) (omega arith),
@@ -66,9 +62,9 @@ resumed_first place deleted inserted old new =
 -- only one line is the first, so whoever finds it has r
 not_sooner : (t : ℕ → ℕ → Bool) (ls : List Line) (r s : ℕ) → FirstThat t ls r → FirstThat t ls s → s ≤ r
 not_sooner t ls r s f g =
-    elim (ordered r s) [
+    elim (cases_lt r s) [
       | inl h ↦
-          absurd (true_false (sym (f.passes (omega (arith, g.within))) ∙ g.none_before r h))
+          absurd (true≢false (sym (f.passes (omega (arith, g.within))) ∙ g.none_before r h))
       | inr h ↦ h
     ]
 

@@ -1,10 +1,6 @@
 -- What the gaps of a line come to, stage by stage. Assumes nothing.
-use mathlib.Core.Path.{◌≡◌}
-use Prim.Native.Nat.{ℕ, ◌+◌, ◌-◌, ◌≤◌}
-use native.Mathlib.Omega.{arith}
-use native.Mathlib.Nat.{zero-mul, add-zero, sub_self}
-use mathlib.Core.Bool.{Bool}
-use mathlib.Core.List.{List}
+use Rattle.std.proofs.Common.{◌≡◌, ℕ, ◌+◌, ◌-◌, ◌≤◌, arith, zero-mul, add-zero, Bool, List}
+use Rattle.std.proofs.Math.Nat.{sub_self}
 use Rattle.rules.specs.Basics.{Run}
 use Rattle.rules.specs.Groups.{TextUnit}
 use Rattle.rules.specs.Gaps.{Gap}

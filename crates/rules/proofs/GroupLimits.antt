@@ -1,21 +1,14 @@
 -- Bounds: what answers 8 and 9 leave of units. Assumes nothing.
-use mathlib.Core.Path.{◌≡◌}
-use Prim.Native.Nat.{ℕ, zero, suc, ◌+◌, ◌≤◌}
-use native.Mathlib.Omega.{arith}
-use mathlib.Core.Bool.{cond, ◌&&◌}
-use mathlib.Core.List.{List, [], ◌∷◌}
-use mathlib.Core.Logic.{inl, inr}
-use mathlib.Core.Option.{none, some}
-use lib.Dec.{ltb, eqb}
-use lib.ListN.{drop}
-use borrow.Author.Tests.{ltb-true}
+use Rattle.std.proofs.Common.{◌≡◌, sym, ℕ, zero, suc, ◌+◌, ◌≤◌, arith, cond, ◌&&◌, List, [], ◌∷◌, inl, inr, None, Some}
+use Rattle.std.proofs.Common.{ltb, eqb, drop, ltb-true}
 use Rattle.rules.specs.Basics.{cut}
 use Rattle.rules.specs.Limits.{largest_size, most_ruby, most_grouped, largest_advance}
 use Rattle.rules.specs.Records.{Rec}
 use Rattle.rules.specs.Groups.{TextUnit, same_group, may_follow, bad_group, group_fault, units, count, group_advance}
 use Rattle.rules.proofs.Bounds.{ruby_total_small}
 use Rattle.rules.proofs.Cuts.{cut_first}
-use Rattle.rules.proofs.Decisions.{tested, some_none}
+use Rattle.std.proofs.lemmas.Bool.{cases_Bool}
+use Rattle.std.proofs.lemmas.Option.{none-some}
 use Rattle.rules.proofs.RecordLimits.{and_right}
 
 -- the number of records of the first unit
@@ -28,7 +21,7 @@ head_link : (p r : Rec) (rs : List Rec) →
 unfolding units cut
 head_link p r rs =
     let f = cut_first same_group r rs in
-    elim (tested (same_group p r)) [ inl e ↦ rw (f.2, f.3, e) | inr e ↦ rw (f.2, f.3, e) ]
+    elim (cases_Bool (same_group p r)) [ inl e ↦ rw (f.2, f.3, e) | inr e ↦ rw (f.2, f.3, e) ]
 
 none_left : (k : ℕ) → head_count (units (drop k [])) ≤ most_grouped
 unfolding units cut
@@ -49,19 +42,19 @@ few_from n p rs a h later = record { here = h; each = from }
     from (suc k) = later k
 
 -- where answer 9 does not apply
-group_few : (i n : ℕ) (p : Rec) (rs : List Rec) → 1 ≤ n → n ≤ most_grouped → bad_group i n p rs ≡ none → FewFrom n p rs
+group_few : (i n : ℕ) (p : Rec) (rs : List Rec) → 1 ≤ n → n ≤ most_grouped → bad_group i n p rs ≡ None → FewFrom n p rs
 unfolding bad_group
 group_few i n p [] a b h = few_from n p [] a (unfold units cut in omega arith) none_left
 group_few i n p (r ∷ rs) a b h =
     let alike = eqb p.size r.size && eqb p.ruby r.ruby in
-    elim (tested (same_group p r)) [
+    elim (cases_Bool (same_group p r)) [
       | inl e ↦
-          elim (tested (may_follow n p r)) [
+          elim (cases_Bool (may_follow n p r)) [
             | inl d ↦
                 let k = ltb-true n most_grouped (and_right alike (ltb n most_grouped) d) in
                 let g = group_few (suc i) (suc n) r rs (omega arith) k (rw (e, d, bad_group) at h) in
                 few_from n p (r ∷ rs) a (rw (head_link, e) (omega arith)) g.each
-            | inr d ↦ let f : some i ≡ none = rw (e, d, bad_group) at h in absurd (some_none f)
+            | inr d ↦ let f : Some i ≡ None = rw (e, d, bad_group) at h in absurd (none-some _ (sym f))
           ]
       | inr e ↦
           let g = group_few (suc i) 1 r rs (omega arith) (omega arith) (rw (e, bad_group) at h) in
@@ -69,7 +62,7 @@ group_few i n p (r ∷ rs) a b h =
     ]
 
 -- no unit, from any record on, has more than 16 records
-pub units_few : (rs : List Rec) → group_fault rs ≡ none → (k : ℕ) → head_count (units (drop k rs)) ≤ most_grouped
+pub units_few : (rs : List Rec) → group_fault rs ≡ None → (k : ℕ) → head_count (units (drop k rs)) ≤ most_grouped
 unfolding group_fault
 units_few [] h k = none_left k
 units_few (r ∷ rs) h k = (group_few 1 1 r rs (omega arith) (omega arith) h).each k

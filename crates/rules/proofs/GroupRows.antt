@@ -1,11 +1,8 @@
 -- The two rows of a group as rows that are set: where their items stand, that each stays within the group, and what
--- request 06 asks of them. Assumes nothing.
-use mathlib.Core.Path.{◌≡◌, refl, ap, ◌∙◌}
-use Prim.Native.Nat.{ℕ, zero, suc, ◌+◌, ◌*◌, ◌-◌, ◌/◌, ◌≤◌, ◌<◌}
-use native.Mathlib.Omega.{arith}
-use native.Mathlib.Nat.{add-zero, zero-add, add-suc, suc-add, add_assoc, zero-mul, suc-mul}
-use mathlib.Core.List.{List, [], ◌∷◌, ◌++◌, map}
-use lib.ListN.{length, get_or, length-append}
+-- docs/RULES.md, "Where the characters of a group stand", asks of them. Assumes nothing.
+use Rattle.std.proofs.Common.{◌≡◌, refl, ap, ◌∙◌, ℕ, zero, suc, ◌+◌, ◌*◌, ◌-◌, ◌/◌, ◌≤◌, ◌<◌, arith, add-zero}
+use Rattle.std.proofs.Common.{zero-add, add-suc, suc-add, add_assoc, zero-mul, suc-mul, List, [], ◌∷◌, ◌++◌, map}
+use Rattle.std.proofs.Common.{length, get_or, length-append}
 use Rattle.rules.specs.Basics.{whole}
 use Rattle.rules.specs.Records.{Rec}
 use Rattle.rules.specs.Groups.{TextUnit, count, advances, base_total, ruby_total, group_advance, advance}

@@ -1,11 +1,5 @@
 -- Bounds: what answer 8 leaves of a record of a group. Assumes nothing.
-use mathlib.Core.Path.{◌≡◌}
-use Prim.Native.Nat.{ℕ, ◌≤◌, ◌<◌}
-use native.Mathlib.Omega.{arith}
-use mathlib.Core.Bool.{true}
-use mathlib.Core.List.{List}
-use mathlib.Core.Option.{none}
-use borrow.Author.Tests.{eqb-true, ne_eqb}
+use Rattle.std.proofs.Common.{◌≡◌, ℕ, ◌≤◌, ◌<◌, arith, true, List, None, eqb-true, ne_eqb}
 use Rattle.rules.specs.Basics.{within, is_in}
 use Rattle.rules.specs.Limits.{largest_size, most_ruby}
 use Rattle.rules.specs.Records.{Rec, group_classes, size_ok, advance_kind, advance_ok, group_ok, rec_ok, bad_record}
@@ -18,7 +12,7 @@ use Rattle.rules.proofs.RecordLimits.{asked, asked_in_group}
 abbrev pub Fine : Rec → Type 0
 Fine r = rec_ok r ≡ true
 
-pub all_fine : (i : ℕ) (rs : List Rec) → bad_record i rs ≡ none → All Fine rs
+pub all_fine : (i : ℕ) (rs : List Rec) → bad_record i rs ≡ None → All Fine rs
 unfolding bad_record
 all_fine i rs h = none_fails rec_ok i rs h
 

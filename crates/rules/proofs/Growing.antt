@@ -1,13 +1,9 @@
 -- What grows where a paragraph goes on otherwise: a unit may get further records, a run further units. Of widths, units
--- and forbidden breaks request 03 needs two facts: `grown_wider`, that a line which grows at its end gets no narrower,
--- and `forbidden_alike`, that a unit's first record tells where a break before it is forbidden. Assumes nothing.
-use mathlib.Core.Path.{◌≡◌, ap, ◌∙◌}
-use Prim.Native.Nat.{ℕ, ◌+◌, ◌≤◌}
-use native.Mathlib.Omega.{arith}
-use mathlib.Core.Bool.{true, false}
-use mathlib.Core.List.{List, [], ◌∷◌, ◌++◌}
-use lib.Dec.{leb}
-use borrow.Author.Tests.{leb-false, lt-leb}
+-- and forbidden breaks docs/RULES.md, "How many lines an edit composes anew", needs two facts: `grown_wider`, that a
+-- line which grows at its end gets no narrower, and `forbidden_alike`, that a unit's first record tells where a break
+-- before it is forbidden. Assumes nothing.
+use Rattle.std.proofs.Common.{◌≡◌, ap, ◌∙◌, ℕ, ◌+◌, ◌≤◌, arith, true, false, List, [], ◌∷◌, ◌++◌, leb, leb-false}
+use borrow.Author.Tests.{lt-leb}
 use Rattle.rules.specs.Basics.{Run, alone, whole, extended, joined, cut}
 use Rattle.rules.specs.Records.{Rec}
 use Rattle.rules.specs.Groups.{TextUnit, same_group, units, advances, group_advance, advance}

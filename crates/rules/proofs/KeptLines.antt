@@ -1,13 +1,9 @@
 -- The composition at the start of a line but the first: the lines before it stay, whatever records follow its first
 -- run, and the lines from there on are those of the records from there on. Nothing here looks into a width or into a
 -- unit: it all comes from `line_at`. Assumes nothing.
-use mathlib.Core.Path.{◌≡◌, refl, ap, sym, ◌∙◌}
-use Prim.Native.Nat.{ℕ, zero, suc, ◌≤◌, ◌<◌}
-use native.Mathlib.Omega.{arith}
-use mathlib.Core.Bool.{false}
-use mathlib.Core.List.{List, [], ◌∷◌, ◌++◌}
-use lib.ListN.{length, take, drop}
-use lib.Seq.{length-take-le, take-length, drop-append_seam}
+use Rattle.std.proofs.Common.{◌≡◌, refl, ap, sym, ◌∙◌, ℕ, zero, suc, ◌≤◌, ◌<◌, arith, false, List, [], ◌∷◌, ◌++◌}
+use Rattle.std.proofs.Common.{length, take, drop, length-take-le}
+use Rattle.std.proofs.Math.Seq.{take-length, drop-append_seam}
 use Rattle.rules.specs.Basics.{Run, whole, joined}
 use Rattle.rules.specs.Records.{Rec}
 use Rattle.rules.specs.Groups.{TextUnit, units, counts}

@@ -9,7 +9,6 @@ pub mod Zeros
 pub mod Stores
 -- a record's own rules and the published lists: `record_ok`, `plain_ok`, and answers 8 and 12
 pub mod ClassTable
-pub mod AdvanceKinds
 pub mod Bounds
 pub mod RecordLimits
 pub mod Listed
@@ -17,20 +16,21 @@ pub mod Judged
 -- cuts into runs: units of records, and runs of units
 pub mod Cuts
 pub mod CutParts
--- groups: their limits, their two rows (request 06) and ruby place
+-- groups: their limits, their two rows and ruby place
 pub mod GroupLimits
 pub mod GroupedRecords
 pub mod SetRows
 pub mod GroupRows
 pub mod RubyPlaces
--- the spacing table and gaps in one word, request 02: `break_forbidden`, `taken`, `joint_between`, `added`, `unpack`
+-- the spacing table and gaps in one word: `break_forbidden`, `joint_between`, `PackedGap`
 pub mod SpacingCells
+pub mod SpacingTable
 pub mod SpacingBreaks
 pub mod SpacingEntries
 pub mod Packed
 pub mod GapWeights
 pub mod GapWords
--- the breaking: lines chosen, longest and no others, answer 10, and what no line starts or ends with (requests 04, 01)
+-- the breaking: lines chosen, longest and no others, answer 10, and what no line starts or ends with
 pub mod Widths
 pub mod Breaking
 pub mod NoBreaking
@@ -42,12 +42,14 @@ pub mod Percent
 pub mod Shares
 pub mod LineEnds
 pub mod GapLimits
+-- the numbers of refusals
+pub mod Numbers
 -- the words of records, lines and slots
 pub mod RecordWords
 pub mod WordCounts
 pub mod AnswerPlaces
 pub mod SlotWords
--- lines redone, request 03: a paragraph at the start of a line, k and f, r, and the words of lines that stay or move
+-- lines redone: a paragraph at the start of a line, k and f, r, and the words of lines that stay or move
 pub mod Growing
 pub mod BreakingStops
 pub mod LineStarts
@@ -58,7 +60,7 @@ pub mod FirstLines
 pub mod Resuming
 pub mod MovedWords
 pub mod RedoneLines
--- slots taken, request 07
+-- slots taken
 pub mod OwnSlots
 -- cases worked by hand
 pub mod WorkedCases

@@ -1,18 +1,14 @@
 -- Where a line ends, by its kind. Assumes nothing.
-use mathlib.Core.Path.{◌≡◌}
-use Prim.Native.Nat.{ℕ, ◌+◌, ◌*◌, ◌-◌, ◌/◌, ◌≤◌, ◌<◌}
-use native.Mathlib.Omega.{arith}
-use native.Mathlib.Nat.{mul-div_left, div-zero, zero-mul, zero-div}
-use mathlib.Core.Bool.{Bool, true, false, cond}
-use mathlib.Core.Logic.{inl, inr}
-use lib.Dec.{ltb, eqb}
-use borrow.Author.Tests.{ltb-true, ltb-false, eqb-true, eqb-false}
+use Rattle.std.proofs.Common.{◌≡◌, ℕ, ◌+◌, ◌*◌, ◌-◌, ◌/◌, ◌≤◌, ◌<◌, arith, zero-mul, Bool, true, false, cond, inl}
+use Rattle.std.proofs.Common.{inr, ltb, eqb, ltb-true, ltb-false, eqb-true}
+use Rattle.std.proofs.Math.Nat.{mul-div_left, div-zero, zero-div}
+use borrow.Author.Tests.{eqb-false}
 use Rattle.rules.specs.Basics.{Run}
 use Rattle.rules.specs.Groups.{TextUnit}
 use Rattle.rules.specs.Gaps.{Gap, no_gaps}
 use Rattle.rules.specs.Breaks.{width}
 use Rattle.rules.specs.Adjustment.{Amounts, amounts, amounts_of, gaps_of, natural, kind_of, line_of}
-use Rattle.rules.proofs.Decisions.{tested}
+use Rattle.std.proofs.lemmas.Bool.{cases_Bool}
 use Rattle.rules.proofs.Widths.{natural_smallest}
 use Rattle.rules.proofs.Shares.{shared_out, none_yet, ending_sum}
 
@@ -73,7 +69,7 @@ spread_zero e c h = rw (h, zero-mul, zero-div)
 
 spread_within : (e : Amounts) (c : Gap) → spread e c ≤ e.stretch₂
 spread_within e c =
-    elim (tested (eqb c.stretch₂ 0)) [
+    elim (cases_Bool (eqb c.stretch₂ 0)) [
       | inl q ↦ omega (arith, spread_none e c (eqb-true c.stretch₂ 0 q))
       | inr q ↦ omega (arith, spread_all e c (eqb-false c.stretch₂ 0 q))
     ]
@@ -115,9 +111,9 @@ ends_by_kind m x false l h =
     let e = amounts_of m x false l in
     let t = taken m x false l h in
     let end = end_law m x false l h in
-    elim (tested (ltb 0 e.stretch₂)) [
+    elim (cases_Bool (ltb 0 e.stretch₂)) [
       | inl p ↦
-          elim (tested (eqb (gaps_of l).stretch₂ 0)) [
+          elim (cases_Bool (eqb (gaps_of l).stretch₂ 0)) [
             | inl q ↦
                 let z = eqb-true _ _ q in
                 rw (p, q) (omega (arith, spread_none e (gaps_of l) z, ltb-true 0 e.stretch₂ p))

@@ -1,12 +1,7 @@
--- Request 04: of accepted records, no line but the first opens with a character that is listed only under classes that
--- start no line. Assumes nothing.
-use mathlib.Core.Path.{◌≡◌, refl, sym}
-use Prim.Native.Nat.{ℕ}
-use mathlib.Core.Bool.{Bool, true, not, ◌&&◌, ◌||◌, and-eq-true_iff}
-use mathlib.Core.List.{List, [], ◌∷◌}
-use mathlib.Core.Logic.{inl, inr}
-use lib.Dec.{eqb}
-use borrow.Author.Tests.{eqb-true}
+-- docs/RULES.md, "Which characters a class has": of accepted records, no line but the first opens with a character that
+-- is listed only under classes that start no line. Assumes nothing.
+use Rattle.std.proofs.Common.{◌≡◌, refl, sym, ℕ, Bool, true, not, ◌&&◌, ◌||◌, List, [], ◌∷◌, inl, inr, eqb, eqb-true}
+use Rattle.std.proofs.Math.Bool.{and-eq-true_iff}
 use Rattle.lists.specs.Ranges.{has_code}
 use Rattle.lists.specs.Lists.{ClassList, list, lists, in_lists, in_list}
 use Rattle.lists.proofs.Claims.{in_list_means}
@@ -17,7 +12,7 @@ use Rattle.rules.specs.Groups.{TextUnit, same_group, units, side}
 use Rattle.rules.specs.Breaks.{forbidden_between, runs, breaking}
 use Rattle.rules.specs.Refusals.{judged}
 use Rattle.rules.specs.Meanings.{All, all_none, all_more, Apart, Listed, NeverOpens, starts_with}
-use Rattle.rules.proofs.Decisions.{tested, true_false}
+use Rattle.std.proofs.lemmas.Bool.{cases_Bool, true≢false}
 use Rattle.rules.proofs.Judged.{judged_passes}
 use Rattle.rules.proofs.Listed.{all_listed}
 use Rattle.rules.proofs.CutParts.{apart_where}
@@ -35,10 +30,10 @@ all_not_at_start k (list c rs ∷ ls) = (not (has_code k rs) || not_at_line_star
 
 not_at_start_in : (c k : ℕ) (ls : List ClassList) → all_not_at_start k ls ≡ true → in_lists c k ls ≡ true →
     not_at_line_start c ≡ true
-not_at_start_in c k [] e h = absurd (true_false (sym h))
+not_at_start_in c k [] e h = absurd (true≢false (sym h))
 not_at_start_in c k (list n rs ∷ ls) e h =
     let both = (and-eq-true_iff (not (has_code k rs) || not_at_line_start n) (all_not_at_start k ls)).0 e in
-    elim (tested (eqb c n && has_code k rs)) [
+    elim (cases_Bool (eqb c n && has_code k rs)) [
       | inl e ↦
           let q = (and-eq-true_iff (eqb c n) (has_code k rs)).0 e in
           rw (eqb-true c n q.0) (rw q.1 at both.0)
@@ -62,12 +57,12 @@ bars l r e = rw e
 -- the classes of groups may start a line
 groups_open : (c : ℕ) → is_in c group_classes ≡ true → not_at_line_start c ≡ true → ⊥
 groups_open c e b =
-    true_false (sym (rw b at (all_at (λ k. not (not_at_line_start k)) group_classes refl c e)))
+    true≢false (sym (rw b at (all_at (λ k. not (not_at_line_start k)) group_classes refl c e)))
 
 -- so a record of a class that starts no line is in no group, and counts as its own class
 ungrouped : (r : Rec) → Fine r → not_at_line_start r.class ≡ true → eqb r.group 0 ≡ true
 ungrouped r f b =
-    elim (tested (eqb r.group 0)) [
+    elim (cases_Bool (eqb r.group 0)) [
       | inl e ↦ e
       | inr e ↦
           let p = asked_in_group r.class r.group r.ruby (asked r f).group e in

@@ -1,13 +1,8 @@
 -- A paragraph at the start of one of its lines but the first: the lines before it depend on the records up to the end
 -- of its first run only, and the lines from there on are those of a paragraph of its own, without indent.
 -- Assumes nothing.
-use mathlib.Core.Path.{◌≡◌, refl, ap, sym, ◌∙◌}
-use Prim.Native.Nat.{ℕ, suc, ◌+◌, ◌≤◌, ◌<◌}
-use native.Mathlib.Omega.{arith}
-use mathlib.Core.List.{List, [], ◌∷◌, ◌++◌}
-use lib.ListN.{length, take, drop}
-use native.Mathlib.Numerals.{add-one}
-use lib.Seq.{take-add}
+use Rattle.std.proofs.Common.{◌≡◌, refl, ap, sym, ◌∙◌, ℕ, suc, ◌+◌, ◌≤◌, ◌<◌, arith, List, [], ◌∷◌, ◌++◌, length}
+use Rattle.std.proofs.Common.{take, drop, add-one, take-add}
 use Rattle.rules.specs.Basics.{Run, whole, joined, cut}
 use Rattle.rules.specs.Records.{Rec}
 use Rattle.rules.specs.Groups.{TextUnit, same_group, units, counts}

@@ -1,12 +1,10 @@
--- Document 02, request 04, "Classes checked against the published lists", as cases worked by hand: one table, with one
--- claim over all rows that the checker computes. What a row wants is told in WorkedCases.antt. Assumes nothing.
+-- docs/RULES.md, "Which characters a class has": classes checked against the published lists, as cases worked by hand:
+-- one table, with one claim over all rows that the checker computes. What a row wants is told in WorkedCases.antt.
+-- Assumes nothing.
 --
 --   of class     a record by class and code point, as wide as its size
 --   of a group   a kanji of a group with a ruby count
-use mathlib.Core.Path.{◌≡◌, refl}
-use Prim.Native.Nat.{ℕ}
-use mathlib.Core.Bool.{true}
-use mathlib.Core.List.{List, [], ◌∷◌}
+use Rattle.std.proofs.Common.{◌≡◌, refl, ℕ, true, List, [], ◌∷◌}
 use Rattle.rules.specs.Records.{Rec}
 use Rattle.rules.proofs.WorkedCases.{sized, K, Row, row, right, worked}
 
@@ -66,7 +64,7 @@ listings =
     ∷ is_not (of_class 27 0xFF21)
     ∷ []
 
--- every row comes out as request 04 has it
+-- every row comes out as docs/RULES.md, "Which characters a class has", asks
 pub listings_hold : right listings ≡ true
 unfolding worked listings
 listings_hold = refl

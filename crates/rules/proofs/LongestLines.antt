@@ -1,19 +1,13 @@
 -- Each line of the breaking is the longest. Assumes nothing.
-use mathlib.Core.Path.{◌≡◌, refl, ap, sym, ◌∙◌}
-use Prim.Native.Nat.{ℕ, ◌+◌, ◌<◌}
-use native.Mathlib.Omega.{arith}
-use native.Mathlib.Nat.{le_trans}
-use mathlib.Core.Bool.{true, false}
-use mathlib.Core.List.{List, [], ◌∷◌, ◌++◌, append_assoc}
-use mathlib.Core.Logic.{inl, inr}
-use lib.Dec.{leb}
-use borrow.Author.Tests.{leb-false}
+use Rattle.std.proofs.Common.{◌≡◌, refl, ap, sym, ◌∙◌, ℕ, ◌+◌, ◌<◌, arith, le_trans, true, false, List, [], ◌∷◌, ◌++◌}
+use Rattle.std.proofs.Common.{append_assoc, inl, inr, leb, leb-false}
 use Rattle.rules.specs.Basics.{Run, alone, whole, extended, joined}
 use Rattle.rules.specs.Groups.{TextUnit}
 use Rattle.rules.specs.Breaks.{forbidden_between, width, runs, filled, breaking}
 use Rattle.rules.specs.Meanings.{All, all_more, last_in, Linked, linked_one, linked_more, LinkedRun}
 use Rattle.rules.specs.Meanings.{EndsWell, at_end, at_break, Longest, longest_none, longest_more}
-use Rattle.rules.proofs.Decisions.{tested, true_false, nil_cons}
+use Rattle.std.proofs.lemmas.Bool.{cases_Bool, true≢false}
+use Rattle.rules.proofs.Decisions.{nil_cons}
 use Rattle.rules.proofs.Cuts.{cut_linked}
 use Rattle.rules.proofs.Widths.{wider}
 use Rattle.rules.proofs.Breaking.{filled_joined}
@@ -30,7 +24,7 @@ ends_inside b p q at_end = nil_cons q
 ends_inside {u} {v} {t} b p q (at_break {v = w} e) =
     let r : w ≡ v = cc in
     let f : forbidden_between u v ≡ false = rw (← p, ← r) e in
-    true_false (sym b ∙ f)
+    true≢false (sym b ∙ f)
 
 -- a stretch of units that may end a line, where a linked run comes first, holds that whole run
 holds_run : (u : TextUnit) (us : List TextUnit) → Linked forbidden_between u us →
@@ -64,7 +58,7 @@ filled_longest : (m x : ℕ) (l : Run TextUnit) (ks : List (Run TextUnit)) → A
 unfolding filled joined
 filled_longest m x l [] h = longest_more (λ t vs e w. absurd (nil_cons (sym e))) longest_none
 filled_longest m x l (k ∷ ks) (all_more g h) =
-    elim (tested (leb (x + width (extended l k)) m)) [
+    elim (cases_Bool (leb (x + width (extended l k)) m)) [
       | inl e ↦ rw (e, filled) (filled_longest m x (extended l k) ks h)
       | inr e ↦
           rw (e, filled)

@@ -1,14 +1,10 @@
--- Document 02, request 03 in the words of a slot: the line words and place words of lines that stay, and of lines that
--- move. Assumes nothing.
-use mathlib.Core.Path.{◌≡◌, refl, ap, sym, ◌∙◌}
-use Prim.Native.Nat.{ℕ, zero, suc, ◌+◌, ◌*◌, ◌-◌}
-use native.Mathlib.Omega.{arith}
-use native.Mathlib.Nat.{add-zero, zero-add, add-suc, suc-add, add_assoc, mul-suc}
-use native.Mathlib.Numerals.{add-three}
-use mathlib.Core.List.{List, [], ◌∷◌, ◌++◌}
-use mathlib.Core.Logic.{inl, inr}
-use lib.ListN.{length, take, drop, drop_of_length-le}
-use lib.Seq.{take-append-add, drop-append-add}
+-- docs/RULES.md, "How many lines an edit composes anew", in the words of a slot: the line words and place words of
+-- lines that stay, and of lines that move. Assumes nothing.
+use Rattle.std.proofs.Common.{◌≡◌, refl, ap, sym, ◌∙◌, ℕ, zero, suc, ◌+◌, ◌*◌, ◌-◌, arith, add-zero, zero-add}
+use Rattle.std.proofs.Common.{add-suc, suc-add, add_assoc, mul-suc, List, [], ◌∷◌, ◌++◌, inl, inr, length, take, drop}
+use Rattle.std.proofs.Common.{drop_of_length-le}
+use Rattle.std.proofs.Math.Numerals.{add-three}
+use Rattle.std.proofs.Math.Seq.{take-append-add, drop-append-add}
 use Rattle.rules.specs.Basics.{Run}
 use Rattle.rules.specs.Records.{Rec}
 use Rattle.rules.specs.Groups.{TextUnit, units}
@@ -17,7 +13,8 @@ use Rattle.rules.specs.Sheet.{places_of, place_words, line_words}
 use Rattle.rules.specs.Meanings.{All, all_none, all_more}
 use Rattle.rules.specs.Redone.{start}
 use Rattle.rules.specs.Stable.{StableAround, used_by, moved_lines, moved_places, WordsStable}
-use Rattle.rules.proofs.Decisions.{ordered, cons_path}
+use Rattle.std.proofs.lemmas.Bool.{cases_lt}
+use Rattle.rules.proofs.Decisions.{cons_path}
 use Rattle.rules.proofs.WordCounts.{length_xs, length_places_of}
 
 -- Words of lines up to a line, and from it on ------------------------------------------------------------------------
@@ -100,7 +97,7 @@ module _ (f r deleted inserted : ℕ) (old new : List Line)
       moved_lines inserted deleted (line_words (start s.again old) (drop s.again old))
   unfolding line_words moved_lines
   later_lines =
-      elim (ordered r (length new)) [
+      elim (cases_lt r (length new)) [
         | inl h ↦
             ap (λ ls. line_words (start r new) ls) s.after
             ∙ lines_moved inserted deleted (start s.again old) (start r new) (drop s.again old) (s.moved h).2

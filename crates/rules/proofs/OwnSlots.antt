@@ -1,17 +1,11 @@
 -- Laws of a clinic's own slots, and of the lowest-numbered of them that is free. Assumes nothing.
-use mathlib.Core.Path.{◌≡◌, refl, subst}
-use Prim.Native.Nat.{ℕ, zero, suc, ◌≤◌}
-use native.Mathlib.Omega.{arith}
-use mathlib.Core.Bool.{cond}
-use mathlib.Core.List.{List, map}
-use mathlib.Core.Logic.{◌⊎◌, inl, inr}
-use mathlib.Core.Option.{Option, some}
-use lib.Dec.{eqb}
-use borrow.Author.Tests.{eqb-true, eqb-false, eq-eqb, ne_eqb}
+use Rattle.std.proofs.Common.{◌≡◌, refl, subst, ℕ, zero, suc, ◌≤◌, arith, cond, List, map, ◌⊎◌, inl, inr, Option}
+use Rattle.std.proofs.Common.{Some, eqb, eqb-true, eq-eqb, ne_eqb}
+use borrow.Author.Tests.{eqb-false}
 use Rattle.rules.specs.Sheet.{Setting, with_use}
 use Rattle.rules.specs.Pool.{OwnSlot, own_among, lowest_free}
 use Rattle.rules.specs.LowestFree.{FreeAt, Found, found, not_found}
-use Rattle.rules.proofs.Decisions.{tested, ordered}
+use Rattle.std.proofs.lemmas.Bool.{cases_Bool, cases_lt}
 
 module _ (settings : ℕ → Setting) (clinic : ℕ) where
   abbrev own : ℕ → ℕ → List OwnSlot
@@ -20,23 +14,23 @@ module _ (settings : ℕ → Setting) (clinic : ℕ) where
   abbrev FreeOf : ℕ → Type 0
   FreeOf k = FreeAt settings clinic k
 
-  pub free_here : (k n : ℕ) → FreeOf k → lowest_free (own k (suc n)) ≡ some k
+  pub free_here : (k n : ℕ) → FreeOf k → lowest_free (own k (suc n)) ≡ Some k
   unfolding own_among lowest_free
   free_here k n f = rw (eq-eqb _ _ f.0, eq-eqb _ _ f.1)
 
   pub free_later : (k n : ℕ) → (FreeOf k → ⊥) → lowest_free (own k (suc n)) ≡ lowest_free (own (suc k) n)
   unfolding own_among lowest_free
   free_later k n f =
-      elim (tested (eqb clinic (settings k).clinic)) [
+      elim (cases_Bool (eqb clinic (settings k).clinic)) [
         | inl e ↦ rw (e, ne_eqb (settings k).in_use 0 (λ z. f (eqb-true _ _ e, z)))
         | inr e ↦ rw e
       ]
 
   free_or_not : (k : ℕ) → FreeOf k ⊎ (FreeOf k → ⊥)
   free_or_not k =
-      elim (tested (eqb clinic (settings k).clinic)) [
+      elim (cases_Bool (eqb clinic (settings k).clinic)) [
         | inl e ↦
-            elim (tested (eqb (settings k).in_use 0)) [
+            elim (cases_Bool (eqb (settings k).in_use 0)) [
               | inl f ↦ inl (eqb-true _ _ e, eqb-true _ _ f)
               | inr f ↦ inr (λ g. eqb-false _ _ f g.1)
             ]
@@ -46,7 +40,7 @@ module _ (settings : ℕ → Setting) (clinic : ℕ) where
   -- not slot k, so a later one
   later : (k n i : ℕ) → (FreeOf k → ⊥) → k ≤ i → FreeOf i → suc k ≤ i
   later k n i g h f =
-      elim (ordered k i) [
+      elim (cases_lt k i) [
         | inl l ↦ omega arith
         | inr l ↦ let e : i ≡ k = omega arith in absurd (g (subst FreeOf e f))
       ]
@@ -77,7 +71,7 @@ module _ (settings others : ℕ → Setting) (clinic : ℕ) where
   unfolding own_among
   own_same c u k zero = refl
   own_same c u k (suc n) =
-      elim (tested (eqb clinic (settings k).clinic)) [
+      elim (cases_Bool (eqb clinic (settings k).clinic)) [
         | inl e ↦ rw (c k, e, u k (eqb-true _ _ e), own_same c u (suc k) n)
         | inr e ↦ rw (c k, e, own_same c u (suc k) n)
       ]
@@ -94,11 +88,11 @@ module _ (settings others : ℕ → Setting) (clinic j : ℕ) where
   own_taken h k zero = refl
   own_taken h k (suc n) =
       let same : (others k).clinic ≡ (settings k).clinic
-      = elim (tested (eqb k j)) [ inl t ↦ rw (h k, t) | inr t ↦ rw (h k, t) ] in
+      = elim (cases_Bool (eqb k j)) [ inl t ↦ rw (h k, t) | inr t ↦ rw (h k, t) ] in
       let word : (others k).in_use ≡ cond (eqb k j) 1 (settings k).in_use
-      = elim (tested (eqb k j)) [ inl t ↦ rw (h k, t) | inr t ↦ rw (h k, t) ] in
+      = elim (cases_Bool (eqb k j)) [ inl t ↦ rw (h k, t) | inr t ↦ rw (h k, t) ] in
       let more = own_taken h (suc k) n in
-      elim (tested (eqb clinic (settings k).clinic)) [
+      elim (cases_Bool (eqb clinic (settings k).clinic)) [
         | inl e ↦ rw (same, e, word, more)
         | inr e ↦ rw (same, e, more)
       ]

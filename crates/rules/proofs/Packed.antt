@@ -1,9 +1,7 @@
 -- The laws of a gap in one word: it is linear, and its fields are read back within their bounds. Assumes nothing.
-use mathlib.Core.Path.{◌≡◌, ap, sym, ◌∙◌}
-use Prim.Native.Nat.{ℕ, ◌+◌, ◌*◌, ◌/◌, ◌%◌, ◌^◌, ◌≤◌, ◌<◌}
-use native.Mathlib.Omega.{arith}
+use Rattle.std.proofs.Common.{◌≡◌, ap, sym, ◌∙◌, ℕ, ◌+◌, ◌*◌, ◌/◌, ◌%◌, ◌^◌, ◌≤◌, ◌<◌, arith}
 use Rattle.rules.specs.Gaps.{Gap, least, plus}
-use Rattle.rules.specs.Packed.{packed, least_in, unpacked, Packs, AtMost}
+use Rattle.rules.specs.Packed.{packed, least_in, unpacked, packed_unpacked, Packs, AtMost}
 
 -- one addition sums the space and all capacities
 pub packed_plus : (g h : Gap) → Packs g → Packs h → packed g + packed h ≡ packed (plus g h)
@@ -16,11 +14,6 @@ plus_packs g h p q = omega arith
 -- what fewer gaps come to
 pub at_most_255 : {n : ℕ} {g : Gap} → AtMost n g → n ≤ 255 → AtMost 255 g
 at_most_255 a h = omega arith
-
--- a word is that of the gap that it holds
-pub packed_unpacked : (w : ℕ) → packed (unpacked w) ≡ w
-unfolding packed unpacked
-packed_unpacked w = omega arith
 
 pub unpacked_packs : (w : ℕ) → Packs (unpacked w)
 unfolding unpacked

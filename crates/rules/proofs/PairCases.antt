@@ -1,6 +1,7 @@
--- Document 01, "Space between units" and "Breaks and adjustment", with request 01, read pair by pair: for two units,
--- whether the break between them is forbidden, and the gap's space and its capacity at each stage. One table, with one
--- claim over all rows that the checker computes. What a row wants is written by hand from the papers' words.
+-- docs/RULES.md, "Space between units", "Where a line may be broken" and "How far a gap gives way", read pair by pair:
+-- for two units, whether the break between them is forbidden, and the gap's space and its capacity at each stage. One
+-- table, with one claim over all rows that the checker computes. What a row wants is written by hand from the papers'
+-- words.
 --
 --   at80, at240  a unit of a class, of that size: of 80, 1/2 is 40, 1/4 is 20 and 1/8 is 10; of 240 they are 120, 60
 --                and 30, so a fraction of the wrong side shows. The two differ in code point
@@ -8,10 +9,7 @@
 --                at stretch stage 2, which is 1 at a permitted break with class 5 on neither side
 --
 -- Assumes nothing.
-use mathlib.Core.Path.{◌≡◌, refl}
-use Prim.Native.Nat.{ℕ}
-use mathlib.Core.Bool.{Bool, true, false}
-use mathlib.Core.List.{List, [], ◌∷◌, map}
+use Rattle.std.proofs.Common.{◌≡◌, refl, ℕ, Bool, true, false, List, [], ◌∷◌, map}
 use Rattle.rules.specs.Sides.{Side, forbidden}
 use Rattle.rules.specs.Gaps.{Gap, gap_of}
 use Rattle.rules.specs.Computed.{computed}
@@ -194,7 +192,7 @@ pairs =
     -- forbidden when both are 27, with equal code points or not
     ∷ pair (at80 27) (sized 27 240 0x2014) forbids 0 0 0 0 0
     ∷ pair (at80 27) (at240 27) forbids 0 0 0 0 0
-    -- request 01: 27 before 13 is forbidden when L's code point is U+0030 to U+0039, whatever R's is
+    -- a digit holds a postfix: 27 before 13 is forbidden when L's code point is U+0030 to U+0039, whatever R's is
     ∷ pair (sized 27 80 0x2F) (at240 13) permits 0 0 0 0 1
     ∷ pair (sized 27 80 0x30) (at240 13) forbids 0 0 0 0 0
     ∷ pair (sized 27 80 0x35) (sized 13 240 0x25) forbids 0 0 0 0 0

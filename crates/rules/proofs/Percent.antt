@@ -1,11 +1,7 @@
--- Laws of request 01: between classes 27 and 13 the left code point decides, and no line ends between a digit and its
--- postfix. Assumes nothing.
-use mathlib.Core.Path.{◌≡◌, ◌∙◌}
-use Prim.Native.Nat.{ℕ}
-use mathlib.Core.Bool.{true, and-true, and-eq-true_iff}
-use mathlib.Core.List.{List}
-use lib.Dec.{eqb}
-use borrow.Author.Tests.{eqb-true}
+-- Laws of docs/RULES.md, "Where a line may be broken": between classes 27 and 13 the left code point decides, and no
+-- line ends between a digit and its postfix. Assumes nothing.
+use Rattle.std.proofs.Common.{◌≡◌, ◌∙◌, ℕ, true, List, eqb, eqb-true}
+use Rattle.std.proofs.Math.Bool.{and-true, and-eq-true_iff}
 use Rattle.rules.specs.Sides.{Side, arabic_digit, forbidden}
 use Rattle.rules.specs.Groups.{TextUnit, side}
 use Rattle.rules.specs.Breaks.{forbidden_between, runs, breaking}

@@ -1,13 +1,11 @@
--- Document 02, request 01, "Five percent must stay together", as cases worked by hand: one table, with one claim over
--- all rows that the checker computes. What a row wants is told in WorkedCases.antt. Assumes nothing.
+-- docs/RULES.md, "Where a line may be broken": five percent must stay together, as cases worked by hand: one table,
+-- with one claim over all rows that the checker computes. What a row wants is told in WorkedCases.antt. Assumes
+-- nothing.
 --
 --   letter       a record of class 27 by code point, half its size wide: a digit where it is U+0030 to U+0039
 --   percent      %, of class 13
 --   celsius      ℃, of class 13
-use mathlib.Core.Path.{◌≡◌, refl}
-use Prim.Native.Nat.{ℕ}
-use mathlib.Core.Bool.{true}
-use mathlib.Core.List.{List, [], ◌∷◌}
+use Rattle.std.proofs.Common.{◌≡◌, refl, ℕ, true, List, [], ◌∷◌}
 use Rattle.rules.specs.Records.{Rec}
 use Rattle.rules.proofs.WorkedCases.{sized, K, Row, row, right, worked}
 

@@ -1,10 +1,7 @@
--- Document 02, request 07, "Slots taken and given back", as cases worked by hand: takes on sheets told by their slots'
--- clinics and in-use words, and calls on the slot of a sheet of one. Each is one table, with one claim over all rows
--- that the checker computes. Assumes nothing.
-use mathlib.Core.Path.{◌≡◌, refl}
-use Prim.Native.Nat.{ℕ, ◌*◌, ◌-◌}
-use mathlib.Core.List.{List, [], ◌∷◌, map}
-use lib.ListN.{length, get_or}
+-- docs/RULES.md, "Which slots are in use": slots taken and given back, as cases worked by hand: takes on sheets told by
+-- their slots' clinics and in-use words, and calls on the slot of a sheet of one. Each is one table, with one claim
+-- over all rows that the checker computes. Assumes nothing.
+use Rattle.std.proofs.Common.{◌≡◌, refl, ℕ, ◌*◌, ◌-◌, List, [], ◌∷◌, map, length, get_or}
 use Rattle.rules.specs.Basics.{zeros}
 use Rattle.rules.specs.Layout.{slot_length}
 use Rattle.rules.specs.Sheet.{Setting, setting, with_use}

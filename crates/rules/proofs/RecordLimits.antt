@@ -1,14 +1,10 @@
 -- Bounds: what answer 8 leaves of records. Assumes nothing.
-use mathlib.Core.Path.{◌≡◌}
-use Prim.Native.Nat.{ℕ, ◌*◌, ◌/◌, ◌≤◌}
-use native.Mathlib.Omega.{arith}
-use mathlib.Core.Bool.{Bool, true, false, ◌&&◌, and-eq-true_iff}
-use mathlib.Core.List.{List, ◌∷◌}
-use mathlib.Core.Logic.{inl, inr}
-use mathlib.Core.Option.{none}
-use lib.Dec.{leb, eqb}
-use lib.ListN.{drop}
-use borrow.Author.Tests.{eqb-true}
+use Rattle.std.proofs.Common.{◌≡◌, sym, ℕ, ◌*◌, ◌/◌, ◌≤◌, arith, Bool, true, false, ◌&&◌, List, ◌∷◌, inl, inr, None}
+use Rattle.std.proofs.Common.{◌≢◌, leb, eqb, drop, eqb-true, ne_eqb}
+use Rattle.std.proofs.Math.Bool.{and-eq-true_iff, and-false}
+use Rattle.lists.specs.Classes.{number_of}
+use Rattle.lists.specs.declared.classes.Class.{Class}
+use Rattle.lists.specs.declared.classes.Class.TheVariants.{Hiragana, Katakana, Ideographic}
 use Rattle.rules.specs.Basics.{within, is_in}
 use Rattle.rules.specs.Limits.{largest_size, highest_group, most_ruby}
 use Rattle.rules.specs.Records.{Rec, group_classes, code_ok, classes, class_ok, size_ok, AdvanceKind, half_size}
@@ -18,7 +14,7 @@ use Rattle.rules.specs.Sides.{side_by}
 use Rattle.rules.specs.Bounds.{SideOk}
 use Rattle.rules.proofs.FirstFailing.{none_fails, passes_at}
 use Rattle.rules.proofs.Bounds.{within_high, size_bounds}
-use Rattle.rules.proofs.Decisions.{tested}
+use Rattle.std.proofs.lemmas.Bool.{cases_Bool}
 
 pub record RecordBounds (r : Rec) : Type 0 where
   pub size : r.size ≤ largest_size
@@ -48,7 +44,7 @@ asked_in_group c g n e z =
 ruby_bound : (c g n : ℕ) → group_ok c g n ≡ true → n ≤ most_ruby
 unfolding group_ok
 ruby_bound c g n e =
-    elim (tested (eqb g 0)) [
+    elim (cases_Bool (eqb g 0)) [
       | inl z ↦ omega (arith, eqb-true n 0 (rw z at e))
       | inr z ↦ within_high 1 most_ruby n (asked_in_group c g n e z).0
     ]
@@ -82,13 +78,25 @@ pub side_ok : (r : Rec) → rec_ok r ≡ true → SideOk (side_by r)
 unfolding side_by class_ok classes
 side_ok r e =
     let q = asked r e in
-    elim (tested (eqb r.group 0)) [
+    elim (cases_Bool (eqb r.group 0)) [
       | inl z ↦ record { class = rw z q.class; size = q.size }
       | inr z ↦ record { class = rw z; size = q.size }
     ]
 
 -- where answer 8 does not apply, each record keeps its rules
-pub records_ok : (i : ℕ) (rs : List Rec) → bad_record i rs ≡ none → (k : ℕ) (r : Rec) (qs : List Rec) →
+pub records_ok : (i : ℕ) (rs : List Rec) → bad_record i rs ≡ None → (k : ℕ) (r : Rec) (qs : List Rec) →
     drop k rs ≡ r ∷ qs → rec_ok r ≡ true
 unfolding bad_record
 records_ok i rs h = passes_at rec_ok (none_fails rec_ok i rs h)
+
+-- a number that is no class's is none of the classes that ruby stands over
+pub no_class_group : (c g n : ℕ) → ((class : Class) → number_of class ≢ c) → g ≢ 0 → false ≡ group_ok c g n
+unfolding group_ok
+no_class_group c g n h z =
+    rw (
+      ne_eqb g 0 z,
+      ne_eqb c 15 (λ q. h Hiragana (sym q)),
+      ne_eqb c 16 (λ q. h Katakana (sym q)),
+      ne_eqb c 19 (λ q. h Ideographic (sym q)),
+      and-false (leb g highest_group && within 1 most_ruby n),
+    )

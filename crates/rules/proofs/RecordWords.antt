@@ -1,13 +1,11 @@
 -- Records and their words: the words of the records of some words are those words, and parts of one are parts of the
 -- other. Assumes nothing.
-use mathlib.Core.Path.{◌≡◌, refl, ap, ◌∙◌}
-use Prim.Native.Nat.{ℕ, zero, suc, ◌+◌, ◌*◌, ◌-◌, ◌≤◌, ◌<◌}
-use native.Mathlib.Omega.{arith}
-use native.Mathlib.Nat.{add-zero, zero-add, suc-add, add_assoc, sub-zero, mul-suc}
-use native.Mathlib.Numerals.{add_six}
-use mathlib.Core.List.{List, ◌∷◌, ◌++◌}
-use lib.ListN.{length, get_or, take, drop, get_or-append}
-use lib.Seq.{get_or-take, get_or-drop, drop-cons, get_or-append-add}
+use Rattle.std.proofs.Common.{◌≡◌, refl, ap, ◌∙◌, ℕ, zero, suc, ◌+◌, ◌*◌, ◌-◌, ◌≤◌, ◌<◌, arith, add-zero, zero-add}
+use Rattle.std.proofs.Common.{suc-add, add_assoc, mul-suc, List, ◌∷◌, ◌++◌, length, get_or, take, drop, get_or-take}
+use Rattle.std.proofs.Common.{get_or-drop, drop-cons, get_or-append-add}
+use Rattle.std.proofs.Math.ListN.{get_or-append}
+use Rattle.std.proofs.Math.Nat.{sub-zero}
+use Rattle.std.proofs.Math.Numerals.{add_six}
 use Rattle.rules.specs.Records.{rec_at, records, record_words}
 use Rattle.rules.proofs.Decisions.{cons_path}
 

@@ -1,16 +1,12 @@
--- Document 02, request 03, "How many lines did my edit redo?", as edits worked by hand: one table, with one claim over
--- all rows that the checker computes. A row wants the answer's number, f, r, the report and the new line count.
--- Assumes nothing.
+-- docs/RULES.md, "How many lines an edit composes anew", as edits worked by hand: one table, with one claim over all
+-- rows that the checker computes. A row wants the answer's number, f, r, the report and the new line count. Assumes
+-- nothing.
 --
 --   full stop    。, of class 6
 --   small        a K of size 8, which a line has room for
 --   grouped      a K of group 1 with two ruby characters
 --   text         thirty K: six lines of five in a measure of 440
-use mathlib.Core.Path.{◌≡◌, refl}
-use Prim.Native.Nat.{ℕ}
-use mathlib.Core.Bool.{Bool, true, ◌&&◌}
-use mathlib.Core.List.{List, [], ◌∷◌, ◌++◌}
-use lib.ListN.{length, replicate}
+use Rattle.std.proofs.Common.{◌≡◌, refl, ℕ, Bool, true, ◌&&◌, List, [], ◌∷◌, ◌++◌, length, replicate}
 use Rattle.lists.proofs.Decisions.{same}
 use Rattle.rules.specs.Records.{Rec, rec_of}
 use Rattle.rules.specs.Groups.{units}

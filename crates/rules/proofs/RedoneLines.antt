@@ -1,19 +1,15 @@
--- Document 02, request 03: new lines before f equal the old ones, those from r on are old lines, moved, and r − f is no
--- more than the new line count. Assumes nothing.
-use mathlib.Core.Path.{◌≡◌, refl, ap, sym, ◌∙◌}
-use Prim.Native.Nat.{ℕ, zero, suc, ◌+◌, ◌-◌, ◌≤◌, ◌<◌}
-use native.Mathlib.Omega.{arith}
-use mathlib.Core.List.{List}
-use mathlib.Core.Logic.{inl, inr}
-use lib.ListN.{length, take, drop}
-use lib.Seq.{drop-length}
+-- docs/RULES.md, "How many lines an edit composes anew": new lines before f equal the old ones, those from r on are old
+-- lines, moved, and r − f is no more than the new line count. Assumes nothing.
+use Rattle.std.proofs.Common.{◌≡◌, refl, ap, sym, ◌∙◌, ℕ, zero, suc, ◌+◌, ◌-◌, ◌≤◌, ◌<◌, arith, List, inl, inr}
+use Rattle.std.proofs.Common.{length, take, drop}
+use Rattle.std.proofs.Math.Seq.{drop-length}
 use Rattle.rules.specs.Records.{Rec}
 use Rattle.rules.specs.Groups.{units}
 use Rattle.rules.specs.Adjustment.{Line, compose}
 use Rattle.rules.specs.Refusals.{splice}
 use Rattle.rules.specs.Redone.{start, first_redone, resumed, report}
 use Rattle.rules.specs.Stable.{StableAround, Resumes, used_by, StableEdit}
-use Rattle.rules.proofs.Decisions.{ordered}
+use Rattle.std.proofs.lemmas.Bool.{cases_lt}
 use Rattle.rules.proofs.Splices.{splice_after}
 use Rattle.rules.proofs.KeptLines.{lines_from, lines_kept}
 use Rattle.rules.proofs.EditLine.{before_place, f_within}
@@ -51,7 +47,7 @@ stable : (place deleted inserted : ℕ) (old new : List Line) →
 stable place deleted inserted old new b a =
     let r = resumed place deleted inserted old new in
     let f = resumed_first place deleted inserted old new in
-    elim (ordered r (length new)) [
+    elim (cases_lt r (length new)) [
       | inl h ↦
           let p = (resumes_exactly place deleted inserted old r (start r new)).0 (f.passes h) in
           record {

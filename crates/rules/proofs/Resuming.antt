@@ -1,18 +1,13 @@
--- Document 02, request 03: the test of r, said without it, and who has r. Assumes nothing.
-use mathlib.Core.Path.{◌≡◌, sym}
-use Prim.Native.Nat.{ℕ, zero, suc, ◌+◌, ◌-◌, ◌≤◌, ◌<◌}
-use native.Mathlib.Omega.{arith}
-use mathlib.Core.Bool.{true, false, and-eq-true_iff}
-use mathlib.Core.List.{List, [], ◌∷◌}
-use mathlib.Core.Logic.{inl, inr, ◌↔◌}
-use lib.Dec.{leb, eqb}
-use lib.ListN.{length, drop}
-use borrow.Author.Tests.{leb-true, le-leb, eqb-true, eq-eqb}
+-- docs/RULES.md, "How many lines an edit composes anew": the test of r, said without it, and who has r. Assumes
+-- nothing.
+use Rattle.std.proofs.Common.{◌≡◌, sym, ℕ, zero, suc, ◌+◌, ◌-◌, ◌≤◌, ◌<◌, arith, true, false, List, [], ◌∷◌, inl, inr}
+use Rattle.std.proofs.Common.{◌↔◌, leb, eqb, length, drop, leb-true, le-leb, eqb-true, eq-eqb}
+use Rattle.std.proofs.Math.Bool.{and-eq-true_iff}
 use Rattle.rules.specs.Basics.{is_in}
 use Rattle.rules.specs.Adjustment.{Line}
 use Rattle.rules.specs.Redone.{starts, start, first_redone, resumes, resumed}
 use Rattle.rules.specs.Stable.{Resumes}
-use Rattle.rules.proofs.Decisions.{tested, true_false, unmet}
+use Rattle.std.proofs.lemmas.Bool.{cases_Bool, true≢false, false_from_ne_true}
 use Rattle.rules.proofs.FirstLines.{resumed_first, first_only}
 
 -- a number among the starts of lines is the start of one of them
@@ -23,9 +18,9 @@ record StartOf (q i : ℕ) (ls : List Line) : Type 0 where
 
 is_start : (q i : ℕ) (ls : List Line) → is_in q (starts i ls) ≡ true → StartOf q i ls
 unfolding starts start
-is_start q i [] h = absurd (true_false (sym h))
+is_start q i [] h = absurd (true≢false (sym h))
 is_start q i (l ∷ ls) h =
-    elim (tested (eqb q i)) [
+    elim (cases_Bool (eqb q i)) [
       | inl e ↦ record { line = 0; there = omega arith; is = omega (arith, eqb-true q i e) }
       | inr e ↦
           let s = is_start q (i + l.count) ls (rw e at h) in
@@ -37,7 +32,7 @@ unfolding starts start
 start_in q i [] n h e = absurd (omega arith)
 start_in q i (l ∷ ls) zero h e = rw (eq-eqb q i (omega arith))
 start_in q i (l ∷ ls) (suc n) h e =
-    elim (tested (eqb q i)) [
+    elim (cases_Bool (eqb q i)) [
       | inl f ↦ rw f
       | inr f ↦ rw f (start_in q (i + l.count) ls n (omega arith) (omega arith))
     ]
@@ -46,7 +41,7 @@ start_in q i (l ∷ ls) (suc n) h e =
 later_start : (q : ℕ) (old : List Line) → is_in q (drop 1 (starts 0 old)) ≡ true →
     (n : ℕ) × (1 ≤ n) × (n < length old) × (q ≡ start n old)
 unfolding starts start
-later_start q [] h = absurd (true_false (sym h))
+later_start q [] h = absurd (true≢false (sym h))
 later_start q (l ∷ ls) h =
     let s = is_start q (0 + l.count) ls h in
     (suc s.line, omega arith, omega (arith, s.there), omega (arith, s.is))
@@ -92,7 +87,7 @@ module _ (place deleted inserted : ℕ) (old : List Line) (j i : ℕ) where
 module _ (place deleted inserted : ℕ) (old new : List Line) where
   pub not_resumed : (j i : ℕ) → (Resumes place deleted inserted old j i → ⊥) →
       resumes place deleted inserted old j i ≡ false
-  not_resumed j i h = unmet (λ e. h ((resumes_exactly place deleted inserted old j i).0 e))
+  not_resumed j i h = false_from_ne_true _ (λ e. h ((resumes_exactly place deleted inserted old j i).0 e))
 
   -- whoever has passed all lines, or found one that resumes, has r
   pub none_found : (n : ℕ) → length new ≤ n →

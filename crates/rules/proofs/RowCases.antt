@@ -1,9 +1,7 @@
--- Document 02, request 06, "Both rows end together", as cases worked by hand: one table, with one claim over all rows
--- that the checker computes. What a row wants is told in WorkedCases.antt. Assumes nothing.
-use mathlib.Core.Path.{◌≡◌, refl}
-use Prim.Native.Nat.{ℕ}
-use mathlib.Core.Bool.{true}
-use mathlib.Core.List.{List, [], ◌∷◌}
+-- docs/RULES.md, "Where the characters of a group stand": both rows end together, as cases worked by hand: one table,
+-- with one claim over all rows that the checker computes. What a row wants is told in WorkedCases.antt. Assumes
+-- nothing.
+use Rattle.std.proofs.Common.{◌≡◌, refl, ℕ, true, List, [], ◌∷◌}
 use Rattle.rules.specs.Records.{Rec}
 use Rattle.rules.proofs.WorkedCases.{sized, K, Row, row, right, worked}
 

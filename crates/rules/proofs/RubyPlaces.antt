@@ -1,14 +1,7 @@
 -- Ruby place refuses no ruby character of accepted records: a group has at most 16 records, each as wide as its size,
 -- which is at most 4,000. Assumes nothing.
-use mathlib.Core.Path.{◌≡◌, refl, sym, ◌∙◌}
-use Prim.Native.Nat.{ℕ, suc, ◌*◌, ◌≤◌, ◌<◌}
-use native.Mathlib.Omega.{arith}
-use mathlib.Core.Bool.{true}
-use mathlib.Core.List.{List, [], ◌∷◌}
-use mathlib.Core.Logic.{inl, inr}
-use mathlib.Core.Option.{none}
-use lib.ListN.{length, drop}
-use borrow.Author.Tests.{le-leb, lt-ltb}
+use Rattle.std.proofs.Common.{◌≡◌, refl, sym, ◌∙◌, ℕ, suc, ◌*◌, ◌≤◌, ◌<◌, arith, true, List, [], ◌∷◌, inl, inr, None}
+use Rattle.std.proofs.Common.{length, drop, le-leb, lt-ltb}
 use Rattle.rules.specs.Basics.{whole, joined, link, cut}
 use Rattle.rules.specs.Limits.{largest_size, most_ruby, most_grouped, largest_base}
 use Rattle.rules.specs.Records.{Rec, bad_record}
@@ -18,7 +11,7 @@ use Rattle.rules.specs.Refusals.{judged}
 use Rattle.rules.specs.Meanings.{All, all_none, all_more, OneUnit, single, grouped, RubyPlaced}
 use Rattle.rules.proofs.Cuts.{cut_joined, units_one}
 use Rattle.rules.proofs.All.{all_front, all_back, all_first}
-use Rattle.rules.proofs.Decisions.{tested}
+use Rattle.std.proofs.lemmas.Bool.{cases_Bool}
 use Rattle.rules.proofs.Judged.{judged_passes}
 use Rattle.rules.proofs.GroupLimits.{head_count, units_few}
 use Rattle.rules.proofs.Bounds.{within_low}
@@ -83,7 +76,7 @@ all_few (r ∷ rs) h = longer (all_few rs (λ k. h (suc k))) (h 0)
         All Few (link same_group r us)
     longer all_none b = all_more b all_none
     longer (all_more {a = u} f fs) b =
-        elim (tested (same_group r u.first)) [
+        elim (cases_Bool (same_group r u.first)) [
           | inl e ↦ rw e (all_more (rw e at b) fs)
           | inr e ↦ rw e (all_more (rw e at b) (all_more f fs))
         ]
@@ -94,7 +87,7 @@ all_placed (all_more {a = u} o os) (all_more f fs) (all_more c cs) =
     all_more (unit_placed u o f c) (all_placed os fs cs)
 
 -- where answers 8 and 9 do not apply
-pub rubies_placed : (rs : List Rec) → bad_record 0 rs ≡ none → group_fault rs ≡ none → All RubyPlaced (units rs)
+pub rubies_placed : (rs : List Rec) → bad_record 0 rs ≡ None → group_fault rs ≡ None → All RubyPlaced (units rs)
 rubies_placed rs h k =
     let joins_up : joined (units rs) ≡ rs = unfold units in cut_joined same_group rs in
     all_placed (units_one rs) (all_joined (units rs) (rw joins_up (all_fine 0 rs h))) (all_few rs (units_few rs k))

@@ -1,12 +1,9 @@
--- Rows whose items stand at their solid offsets and their shifts, request 06: with two or more items a row starts and
--- ends with the group, and its inner gaps differ by at most 1; a single item is centred; one that is not shorter is
--- solid. Assumes nothing.
-use mathlib.Core.Path.{◌≡◌, ◌∙◌, ap}
-use Prim.Native.Nat.{ℕ, zero, suc, ◌+◌, ◌*◌, ◌-◌, ◌/◌, ◌≤◌, ◌<◌}
-use native.Mathlib.Omega.{arith}
-use native.Mathlib.Nat.{zero-add, suc-add, mul-suc, add-mul, div-mul-le_self}
-use native.Mathlib.Nat.{le-div_iff_mul-le, div-lt_iff_lt-mul, lt-div-mul-add}
-use borrow.Author.Tests.{le-leb}
+-- docs/RULES.md, "Where the characters of a group stand", of rows whose items stand at their solid offsets and their
+-- shifts: with two or more items a row starts and ends with the group, and its inner gaps differ by at most 1; a single
+-- item is centred; one that is not shorter is solid. Assumes nothing.
+use Rattle.std.proofs.Common.{◌≡◌, ◌∙◌, ap, ℕ, zero, suc, ◌+◌, ◌*◌, ◌-◌, ◌/◌, ◌≤◌, ◌<◌, arith, zero-add, suc-add}
+use Rattle.std.proofs.Common.{mul-suc, add-mul, div-mul-le_self, le-div_iff_mul-le, div-lt_iff_lt-mul, le-leb}
+use Rattle.std.proofs.Math.Nat.{lt-div-mul-add}
 use Rattle.rules.specs.Groups.{shift}
 use Rattle.rules.specs.SpaceBetween.{SpaceBetween, Centred, Solid}
 use Rattle.rules.proofs.Bounds.{shift_first, shift_last, shift_only, shift_small}

@@ -1,10 +1,8 @@
 -- Shares by cumulative floors: a share is at most its capacity, and the shares of a line add up. Assumes nothing.
-use mathlib.Core.Path.{◌≡◌, refl}
-use Prim.Native.Nat.{ℕ, zero, suc, ◌+◌, ◌*◌, ◌/◌, ◌≤◌, ◌<◌}
-use native.Mathlib.Omega.{arith}
-use native.Mathlib.Nat.{le_refl, le_trans, div-zero, zero-div, div-mul-le_self, le-div_iff_mul-le, add-mul-div_right}
-use native.Mathlib.Nat.{mul-div_left, mul-div_right, mul-le-mul_left, mul-add, mul_comm, mul-zero}
-use mathlib.Core.List.{List, [], ◌∷◌}
+use Rattle.std.proofs.Common.{◌≡◌, refl, ℕ, zero, suc, ◌+◌, ◌*◌, ◌/◌, ◌≤◌, ◌<◌, arith, le_refl, le_trans}
+use Rattle.std.proofs.Common.{div-mul-le_self, le-div_iff_mul-le, mul-le-mul_left, mul-add, mul_comm, mul-zero, List}
+use Rattle.std.proofs.Common.{[], ◌∷◌}
+use Rattle.std.proofs.Math.Nat.{div-zero, zero-div, add-mul-div_right, mul-div_left, mul-div_right}
 use Rattle.rules.specs.Groups.{TextUnit, advance}
 use Rattle.rules.specs.Gaps.{Gap, plus}
 use Rattle.rules.specs.Breaks.{gap}

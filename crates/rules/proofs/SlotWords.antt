@@ -1,12 +1,8 @@
 -- A slot's words: how many there are, and what is read back from them. Assumes nothing.
-use mathlib.Core.Path.{◌≡◌, refl, sym, ap, ◌∙◌}
-use Prim.Native.Nat.{ℕ, zero, suc, ◌+◌, ◌-◌, ◌*◌, ◌/◌, ◌≤◌, ◌<◌}
-use native.Mathlib.Nat.{add-zero, mul-suc}
-use native.Mathlib.Numerals.{add-three}
-use native.Mathlib.Omega.{arith}
-use mathlib.Core.List.{List, [], ◌∷◌, ◌++◌, append_assoc, append-nil}
-use lib.ListN.{length, get_or, set, take, drop, length-append}
-use lib.Seq.{get_or-append-add, get_or-take, take_at, drop_at}
+use Rattle.std.proofs.Common.{◌≡◌, refl, sym, ap, ◌∙◌, ℕ, zero, suc, ◌+◌, ◌-◌, ◌*◌, ◌/◌, ◌≤◌, ◌<◌, add-zero, mul-suc}
+use Rattle.std.proofs.Common.{arith, List, [], ◌∷◌, ◌++◌, append_assoc, append-nil, length, get_or, set, take, drop}
+use Rattle.std.proofs.Common.{length-append, get_or-append-add, get_or-take, take_at, drop_at}
+use Rattle.std.proofs.Math.Numerals.{add-three}
 use Rattle.rules.specs.Basics.{cut, zeros, padded}
 use Rattle.rules.specs.Layout.{most_records, head_length, records_length, places_length, lines_length, slot_length}
 use Rattle.rules.specs.Layout.{places_at, lines_at}

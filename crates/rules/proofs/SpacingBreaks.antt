@@ -1,14 +1,14 @@
 -- Whether a break is forbidden, as the spacing table's cell and the two code points tell it. Of the code points the
 -- definition sees two things only, so that the cell tells it is computed over all pairs of classes. Assumes nothing.
-use mathlib.Core.Path.{◌≡◌, refl, ◌∙◌}
-use Prim.Native.Nat.{ℕ}
-use mathlib.Core.Bool.{Bool, true, false, cond, beq}
-use lib.Dec.{ltb, eqb}
+use Rattle.std.proofs.Common.{◌≡◌, refl, ◌∙◌, ℕ, arith, Bool, true, false, cond, ltb, eqb, lt-ltb, le-ltb}
+use Rattle.std.proofs.Math.Bool.{beq}
+use Rattle.std.specs.Cmp.{booleans_Decides}
 use Rattle.rules.specs.Records.{classes, class_ok}
 use Rattle.rules.specs.Sides.{Side, arabic_digit, forbidden}
-use Rattle.rules.specs.Spacing.{forbidden_at, joint_cell}
+use Rattle.rules.specs.Spacing.{forbidden_at, break_of, joint_cell}
 use Rattle.rules.specs.Computed.{computed}
 use Rattle.rules.proofs.ComputedTables.{all_pairs, pairs_at}
+use Rattle.rules.proofs.SpacingCells.{cell_small}
 
 -- by a cell and its left class, where the code points are the same (s) or not and the left one is a digit (d) or not
 abbrev pub told : ℕ → ℕ → Bool → Bool → Bool
@@ -36,12 +36,6 @@ breaks_agree true false = refl
 breaks_agree false true = refl
 breaks_agree false false = refl
 
-beq_same : (a b : Bool) → beq a b ≡ true → a ≡ b
-beq_same true true e = refl
-beq_same true false e = cc
-beq_same false true e = cc
-beq_same false false e = refl
-
 pub forbidden_told : (l r : Side) → class_ok l.class ≡ true → class_ok r.class ≡ true →
     forbidden l r ≡ told (joint_cell l.class r.class) l.class (eqb l.code r.code) (arabic_digit l.code)
 unfolding class_ok
@@ -49,4 +43,33 @@ forbidden_told l r h k =
     let s = eqb l.code r.code in
     let d = arabic_digit l.code in
     forbidden_shown l r s d refl refl
-    ∙ beq_same _ _ (pairs_at (agree s d) classes (breaks_agree s d) l.class r.class h k)
+    ∙ (booleans_Decides _ _).0 (pairs_at (agree s d) classes (breaks_agree s d) l.class r.class h k)
+
+-- what the break in the cell says
+module _ (l r : Side) (h : class_ok l.class ≡ true) (k : class_ok r.class ≡ true) where
+  pub break_permitted : break_of l.class r.class ≡ 0 → forbidden l r ≡ false
+  unfolding joint_cell
+  break_permitted e =
+      rw (lt-ltb (joint_cell l.class r.class) 16 (omega (arith, e, cell_small l.class r.class h k)))
+      at (forbidden_told l r h k)
+
+  pub break_forbidden : break_of l.class r.class ≡ 1 → forbidden l r ≡ true
+  unfolding joint_cell
+  break_forbidden e =
+      rw (
+        le-ltb (joint_cell l.class r.class) 16 (omega (arith, e)),
+        lt-ltb (joint_cell l.class r.class) 32 (omega (arith, e, cell_small l.class r.class h k)),
+      )
+      at (forbidden_told l r h k)
+
+  pub break_by_code : break_of l.class r.class ≡ 2 →
+      forbidden l r ≡ cond (eqb l.class 8) (eqb l.code r.code) (arabic_digit l.code)
+  unfolding joint_cell
+  break_by_code e =
+      rw (
+        le-ltb (joint_cell l.class r.class) 16 (omega (arith, e)),
+        le-ltb (joint_cell l.class r.class) 32 (omega (arith, e)),
+      )
+      at (forbidden_told l r h k)
+
+pub ruleset told_by_break = (break_permitted, break_forbidden, break_by_code)

@@ -1,14 +1,8 @@
 -- The spacing table: that the entry of each cell agrees with the rules is computed over all 324 cells, and turned into
 -- the rule at each pair of classes. Assumes nothing.
-use mathlib.Core.Path.{◌≡◌, refl, ap, sym, ◌∙◌}
-use Prim.Native.Nat.{ℕ, zero, suc, ◌%◌, ◌<◌}
-use native.Mathlib.Omega.{arith}
-use mathlib.Core.Bool.{Bool, true, ◌&&◌, and-eq-true_iff}
-use mathlib.Core.List.{[], map}
-use mathlib.Core.Logic.{inl, inr}
-use lib.Dec.{ltb, eqb}
-use lib.ListN.{get_or}
-use borrow.Author.Tests.{ltb-true, eqb-true}
+use Rattle.std.proofs.Common.{◌≡◌, refl, ap, sym, ◌∙◌, ℕ, zero, suc, ◌%◌, ◌<◌, arith, Bool, true, ◌&&◌, [], map, inl}
+use Rattle.std.proofs.Common.{inr, ltb, eqb, get_or, ltb-true, eqb-true}
+use Rattle.std.proofs.Math.Bool.{and-eq-true_iff}
 use Rattle.rules.specs.Records.{classes, class_ok, index_in, class_index}
 use Rattle.rules.specs.Space.{Fraction, no_part, eighth, quarter, half, Space, spaced, measured, rule_of, space_of}
 use Rattle.rules.specs.Gaps.{Flexibility, punctuation, japanese_western, fixed, flexibility, gap_by}
@@ -16,7 +10,7 @@ use Rattle.rules.specs.Spacing.{Entry, solid, named, gap_set, eighths, flexibili
 use Rattle.rules.specs.Spacing.{cell_of}
 use Rattle.rules.specs.Spacing.{joint_cell, spacing_table, joint_in, cell_in}
 use Rattle.rules.specs.Computed.{computed}
-use Rattle.rules.proofs.Decisions.{tested}
+use Rattle.std.proofs.lemmas.Bool.{cases_Bool}
 use Rattle.rules.proofs.ComputedTables.{all_pairs, pairs_at, map_at}
 
 -- the test -----------------------------------------------------------------------------------------------------------
@@ -84,7 +78,7 @@ agrees_gap e L R h l r w =
     let x = flexibility (rule_of L R) L in
     let both = (and-eq-true_iff (same_space e.space (space_of L R)) _).0 h in
     let p = same_space_is e.space (space_of L R) both.0 in
-    elim (tested (same_space solid.space (space_of L R))) [
+    elim (cases_Bool (same_space solid.space (space_of L R))) [
       | inl z ↦
           let q = same_space_is solid.space (space_of L R) z in
           ap (λ s. gap_by e.gives s l r w) (p ∙ sym q) ∙ nothing_gives e.gives x l r w

@@ -1,16 +1,12 @@
 -- The ten entries of the spacing table: what each sets is linear in eighths of the sizes, and within its bounds.
 -- Assumes nothing.
-use mathlib.Core.Path.{◌≡◌, refl, ap, ◌∙◌}
-use Prim.Native.Nat.{ℕ, zero, suc, ◌+◌, ◌*◌, ◌≤◌, ◌<◌}
-use native.Mathlib.Omega.{arith}
-use native.Mathlib.Nat.{add-zero, zero-add}
-use mathlib.Core.List.{List, [], ◌∷◌, map}
-use lib.ListN.{length, get_or}
+use Rattle.std.proofs.Common.{◌≡◌, ap, ◌∙◌, ℕ, zero, suc, ◌+◌, ◌*◌, ◌≤◌, ◌<◌, arith, add-zero, zero-add, List, []}
+use Rattle.std.proofs.Common.{◌∷◌, length, get_or}
 use Rattle.rules.specs.Limits.{largest_size}
 use Rattle.rules.specs.Space.{Fraction, no_part, eighth, quarter, half, part, measured}
 use Rattle.rules.specs.Gaps.{Flexibility, punctuation, japanese_western, fixed, gap_by}
 use Rattle.rules.specs.Spacing.{Entry, entry, solid, entries, named, gap_set}
-use Rattle.rules.specs.Packed.{packed, Packs, AtMost, left_word, right_word, entry_words, weighing, Taken}
+use Rattle.rules.specs.Packed.{packed, Packs, AtMost, left_word, right_word, weighing, taken}
 
 -- the entry's gap between sizes of a and b eighths, with weight w
 pub record EntryLaw (e : Entry) : Type 0 where
@@ -99,19 +95,7 @@ pub entry_law : (n : ℕ) → n < 10 → EntryLaw (named n)
 unfolding entries
 entry_law n h = each_at EntryLaw entries laws n h
 
--- what the words have for each entry
-words_from : (es : List Entry) (n : ℕ) → n < length es →
-    get_or (map (λ e. left_word e ∷ right_word e ∷ []) es) n []
-    ≡ left_word (get_or es n solid) ∷ right_word (get_or es n solid) ∷ []
-words_from [] n h = absurd (omega arith)
-words_from (e ∷ es) zero h = refl
-words_from (e ∷ es) (suc n) h = words_from es n (omega arith)
-
-pub words_at : (n : ℕ) → n < 10 → get_or entry_words n [] ≡ left_word (named n) ∷ right_word (named n) ∷ []
-unfolding entry_words entries
-words_at n h = words_from entries n h
-
 -- the first entry takes nothing
-pub solid_taken : (n left right : ℕ) → n ≡ 0 → Taken n left right 0
+pub solid_taken : (n left right : ℕ) → n ≡ 0 → 0 ≡ taken n left right
 unfolding entries packed gap_by measured
 solid_taken n left right z = rw z (omega arith)

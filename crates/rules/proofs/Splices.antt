@@ -1,10 +1,7 @@
 -- The records of an edit, before its place and after the inserted stretch. Assumes nothing.
-use mathlib.Core.Path.{◌≡◌, ap, ◌∙◌}
-use Prim.Native.Nat.{ℕ, ◌+◌, ◌-◌, ◌≤◌}
-use native.Mathlib.Omega.{arith}
-use mathlib.Core.List.{List, ◌++◌, append_assoc}
-use lib.ListN.{length, take, drop}
-use lib.Seq.{length-take-le, take-append-add, drop-append-add, drop-drop}
+use Rattle.std.proofs.Common.{◌≡◌, ap, ◌∙◌, ℕ, ◌+◌, ◌-◌, ◌≤◌, arith, List, ◌++◌, append_assoc, length, take, drop}
+use Rattle.std.proofs.Common.{length-take-le, drop-drop}
+use Rattle.std.proofs.Math.Seq.{take-append-add, drop-append-add}
 use Rattle.rules.specs.Records.{Rec}
 use Rattle.rules.specs.Refusals.{splice}
 

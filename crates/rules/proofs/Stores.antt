@@ -1,14 +1,7 @@
--- Words stored one after the other are a paste: the law of functions that store a few words. Their contract is
--- `now ws.exit ≡ paste (now ws.entry) at (w ∷ … ∷ []) k`, and `stores` proves it; each index stays below the
--- length after the stores before it by `simp length-set (omega arith)`. Assumes nothing.
-use mathlib.Core.Path.{◌≡◌, refl, ap, ◌∙◌}
-use Prim.Native.Nat.{ℕ, suc, ◌+◌, ◌≤◌}
-use native.Mathlib.Nat.{add-suc}
-use native.Mathlib.Numerals.{add-one}
-use native.Mathlib.Omega.{arith}
-use mathlib.Core.List.{List, [], ◌∷◌}
-use lib.ListN.{length, set}
-use lib.Seq.{sets, sets-eq, paste, take-length, length-paste}
+-- Words stored one after the other are a paste, which is what `put` of words.rt tells: laws that docs/PORT.md and
+-- docs/DECISIONS.md name. Assumes nothing.
+use Rattle.std.proofs.Common.{◌≡◌, refl, ap, ◌∙◌, ℕ, suc, ◌+◌, ◌≤◌, add-suc, add-one, List, [], ◌∷◌, length, set}
+use Rattle.std.proofs.Math.Seq.{sets, sets-eq, paste, take-length}
 
 -- words stored at at + k, at + (k + 1) …
 abbrev pub stored_from : List ℕ → ℕ → ℕ → List ℕ → List ℕ
@@ -31,16 +24,9 @@ stored_sets [] d at = refl
 stored_sets (w ∷ ws) d at =
     stored_from_sets ws (set d at w) at 1 ∙ ap (λ i. sets (set d at w) i ws) (add-one at)
 
--- `lib.Seq`'s stores are a paste too
+-- the library's stores are a paste too
 pub sets_paste : (ws d : List ℕ) (at : ℕ) → at + length ws ≤ length d → sets d at ws ≡ paste d at ws (length ws)
 sets_paste ws d at h = rw (take-length ws) (sets-eq ws d at h)
 
 pub stores : (ws d : List ℕ) (at : ℕ) → at + length ws ≤ length d → stored d at ws ≡ paste d at ws (length ws)
 stores ws d at h = stored_sets ws d at ∙ sets_paste ws d at h
-
--- words stored in two places
-pub stores_twice : (us ws d : List ℕ) (at to : ℕ) → at + length us ≤ length d → to + length ws ≤ length d →
-    stored (stored d at us) to ws ≡ paste (paste d at us (length us)) to ws (length ws)
-stores_twice us ws d at to h g =
-    let same : length (paste d at us (length us)) ≡ length d = length-paste d at us (length us) h (omega arith) in
-    rw (stores us d at h) (stores ws (paste d at us (length us)) to (omega arith))

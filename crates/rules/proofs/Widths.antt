@@ -1,8 +1,5 @@
 -- Laws of the smallest width. Assumes nothing.
-use mathlib.Core.Path.{◌≡◌, refl}
-use Prim.Native.Nat.{ℕ, ◌+◌, ◌≤◌}
-use native.Mathlib.Omega.{arith}
-use mathlib.Core.List.{List, [], ◌∷◌, ◌++◌}
+use Rattle.std.proofs.Common.{◌≡◌, refl, ℕ, ◌+◌, ◌≤◌, arith, List, [], ◌∷◌, ◌++◌}
 use Rattle.rules.specs.Groups.{TextUnit}
 use Rattle.rules.specs.Space.{Space}
 use Rattle.rules.specs.Gaps.{Flexibility, punctuation, japanese_western, fixed, gap_by, gap_of, least}

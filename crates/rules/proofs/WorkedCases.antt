@@ -2,10 +2,7 @@
 --
 -- A row wants, in one list: the answer's number and place (0 and the line count where it is accepted), the place
 -- words, the line words, and the offsets of the ruby characters of each group. Assumes nothing.
-use Prim.Native.Nat.{ℕ, zero, suc, ◌-◌}
-use mathlib.Core.Bool.{Bool, true, cond, ◌&&◌}
-use mathlib.Core.List.{List, [], ◌∷◌, ◌++◌}
-use lib.Dec.{eqb}
+use Rattle.std.proofs.Common.{ℕ, zero, suc, ◌-◌, Bool, true, cond, ◌&&◌, List, [], ◌∷◌, ◌++◌, eqb}
 use Rattle.lists.proofs.Decisions.{same}
 use Rattle.rules.specs.Records.{Rec}
 use Rattle.rules.specs.Groups.{TextUnit, units, base_total, ruby_place}

@@ -1,4 +1,4 @@
--- Document 01, "Breaks and adjustment": the adjustment of each line, its kind, its end x and the x of its records.
+-- docs/RULES.md, "How a line is adjusted": the adjustment of each line, its kind, its end x and the x of its records.
 --
 --   natural width    a line's advances and spaces, as they are
 --   amount           E: what a stage takes from a line's gaps, or adds to them

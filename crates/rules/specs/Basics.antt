@@ -1,4 +1,4 @@
--- Words that several sections of document 01 share.
+-- Words that several sections of docs/RULES.md share.
 --
 --   is one of    a number stands in a list: `is_in`
 --   from .. to   a number lies between two others, both included: `within`
@@ -11,9 +11,8 @@
 --   tabled       the list of a definition's values, number after number
 --
 -- Assumes nothing.
-use Rattle.std.specs.Prelude.{ℕ, zero, suc, ◌-◌, Bool, true, false, cond, ◌&&◌, ◌||◌}
-use Rattle.std.specs.Prelude.{List, [], ◌∷◌, ◌++◌, leb, eqb, length, replicate}
-use Rattle.std.proofs.Math.Option.{Option, none, some}
+use Rattle.std.specs.Prelude.{ℕ, zero, suc, ◌-◌, Bool, true, false, cond, ◌&&◌, ◌||◌, List, [], ◌∷◌, ◌++◌}
+use Rattle.std.specs.Prelude.{leb, eqb, length, replicate, Option, None, Some}
 
 abbrev pub is_in : ℕ → List ℕ → Bool
 is_in x [] = false
@@ -57,8 +56,8 @@ first_of (row ∷ rows) a = cond row.0 row.1 (first_of rows a)
 
 -- counted from i
 unfoldable pub first_failing : {A : Type 0} → (A → Bool) → ℕ → List A → Option ℕ
-first_failing t i [] = none
-first_failing t i (a ∷ bs) = elim (t a) [ true ↦ first_failing t (suc i) bs | false ↦ some i ]
+first_failing t i [] = None
+first_failing t i (a ∷ bs) = elim (t a) [ true ↦ first_failing t (suc i) bs | false ↦ Some i ]
 
 -- shut, since at a numeral it would be written out, zero by zero
 unfoldable pub zeros : ℕ → List ℕ

@@ -1,4 +1,4 @@
--- Document 01, "Breaks and adjustment": breaks between units, the smallest width, answer 10, and the breaking.
+-- "Which units a line takes": breaks between units, the smallest width, answer 10, and the breaking.
 --
 --   forbidden_between  two units between which a break, 分割, is forbidden
 --   run              here: the units between neighbouring permitted breaks
@@ -6,8 +6,7 @@
 --   measure          字詰め方向の行長, how wide a line may be; indent, 字下げ, where line 0 starts
 --
 -- Assumes nothing.
-use Rattle.std.specs.Prelude.{ℕ, ◌+◌, Bool, true, false, List, [], ◌∷◌, leb}
-use Rattle.std.proofs.Math.Option.{Option, none, some}
+use Rattle.std.specs.Prelude.{ℕ, ◌+◌, Bool, true, false, List, [], ◌∷◌, leb, Option, None, Some}
 use Rattle.rules.specs.Basics.{Run, whole, extended, cut}
 use Rattle.rules.specs.Sides.{forbidden}
 use Rattle.rules.specs.Gaps.{Gap, gap_of, least}
@@ -35,9 +34,9 @@ runs us = cut forbidden_between us
 -- run with the indent, exceeds the measure". x is the indent for the first run and 0 later; i is the run's first
 -- record
 unfoldable pub wide_run : ℕ → ℕ → ℕ → List (Run TextUnit) → Option ℕ
-wide_run m x i [] = none
+wide_run m x i [] = None
 wide_run m x i (l ∷ ls) =
-    elim (leb (x + width l) m) [ true ↦ wide_run m 0 (i + counts (whole l)) ls | false ↦ some i ]
+    elim (leb (x + width l) m) [ true ↦ wide_run m 0 (i + counts (whole l)) ls | false ↦ Some i ]
 
 unfoldable pub no_breaking : ℕ → ℕ → List TextUnit → Option ℕ
 no_breaking m x us = wide_run m x 0 (runs us)

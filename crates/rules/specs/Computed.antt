@@ -19,7 +19,7 @@ use Rattle.rules.specs.Refusals.{judged, sound, splice, lines_redone, slot_rows,
 use Rattle.rules.specs.Refusals.{on_slot, edit, read_rows, read_number, read_start, read_length, read_words}
 use Rattle.rules.specs.Refusals.{bad_slot, fresh_slots, set_up_rows, set_up_answer, set_up}
 use Rattle.rules.specs.Spacing.{entries, agrees, cell_of, break_of, joint_cell, spacing_table}
-use Rattle.rules.specs.Packed.{packed, unpacked, entry_words}
+use Rattle.rules.specs.Packed.{packed, unpacked}
 
 unfoldable pub computed : Unit {0}
 unfolding lists in_list joined cut first_failing zeros code_ok classes class_ok class_index size_ok advance_kind
@@ -32,5 +32,4 @@ unfolding lists in_list joined cut first_failing zeros code_ok classes class_ok 
     lines_redone entry_rows entry_answer on_slot edit read_rows read_number read_start read_length read_words bad_slot
     fresh_slots set_up_rows set_up_answer set_up entries agrees cell_of break_of joint_cell spacing_table packed
     unpacked
-    entry_words
 computed = tt

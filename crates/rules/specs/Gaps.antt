@@ -1,4 +1,4 @@
--- Document 01, "Breaks and adjustment": the gap between two sides, and what it gives and takes at each stage.
+-- docs/RULES.md, "How far a gap gives way": the gap between two sides, and what it gives and takes at each stage.
 --
 --   L, R             the left and the right side
 --   stage            shrink stage 1 and 2, 詰める処理; stretch stage 1 and 2, 空ける処理

@@ -1,5 +1,4 @@
--- Document 01, "Records and groups", second and third paragraph, as request 06 amends them: groups, units, and the rows
--- of a group. Answer 9.
+-- "Groups and units" and "Where the characters of a group stand": groups, units, and the rows of a group. Answer 9.
 --
 --   group        neighbouring records with the same non-zero group number; the same number further on is another group
 --   unit         a group or a single record
@@ -7,9 +6,8 @@
 --   solid        each item directly after the one before, from 0
 --
 -- Assumes nothing.
-use Rattle.std.specs.Prelude.{ℕ, suc, ◌+◌, ◌*◌, ◌-◌, ◌/◌, max, Bool, true, false, cond, not, ◌&&◌}
-use Rattle.std.specs.Prelude.{List, [], ◌∷◌, leb, ltb, eqb, length}
-use Rattle.std.proofs.Math.Option.{Option, none, some}
+use Rattle.std.specs.Prelude.{ℕ, suc, ◌+◌, ◌*◌, ◌-◌, ◌/◌, max, Bool, true, false, cond, not, ◌&&◌, List, []}
+use Rattle.std.specs.Prelude.{◌∷◌, leb, ltb, eqb, length, Option, None, Some}
 use Rattle.rules.specs.Basics.{within, Run, whole, cut}
 use Rattle.rules.specs.Limits.{most_ruby, most_grouped, largest_base}
 use Rattle.rules.specs.Records.{Rec, size_ok}
@@ -29,18 +27,18 @@ may_follow n p r = eqb p.size r.size && eqb p.ruby r.ruby && ltb n most_grouped
 -- "Answer 9 names the first record that differs in size or ruby count from the one before it in its group, or is the
 -- seventeenth." Records are counted from i; p, the n-th of its group, stands before them
 unfoldable pub bad_group : ℕ → ℕ → Rec → List Rec → Option ℕ
-bad_group i n p [] = none
+bad_group i n p [] = None
 bad_group i n p (r ∷ rs) =
     elim (same_group p r) [
       | false ↦ bad_group (suc i) 1 r rs
       | true ↦ elim (may_follow n p r) [
         | true ↦ bad_group (suc i) (suc n) r rs
-        | false ↦ some i
+        | false ↦ Some i
       ]
     ]
 
 unfoldable pub group_fault : List Rec → Option ℕ
-group_fault [] = none
+group_fault [] = None
 group_fault (r ∷ rs) = bad_group 1 1 r rs
 
 -- "A unit is a group or a single record."
@@ -80,10 +78,9 @@ group_advance base n s = max base (ruby_total n s)
 unfoldable pub advance : TextUnit → ℕ
 advance u = group_advance (base_total u) u.first.ruby u.first.size
 
--- Request 06, in place of document 01's floor(D(2k+1)/(2n)): "with n of 2 or more, item k of the shorter row stands at
--- its solid offset plus floor(D·k/(n−1)); with n=1 at floor(D/2) as before." n is the number of items in the shorter
--- row. Document 01: "The longer row is solid from 0. Equal rows are both solid." The difference d is taken as longer
--- less shorter, so it is 0 for the longer row
+-- "With n of 2 or more, item k of the shorter row stands at its solid offset plus floor(D·k/(n−1)); with n=1 at
+-- floor(D/2)." n is the number of items in the shorter row. "The longer row is solid from 0. Equal rows are both
+-- solid." The difference d is taken as longer less shorter, so it is 0 for the longer row
 unfoldable pub shift : ℕ → ℕ → ℕ → ℕ
 shift d n k = cond (leb 2 n) (d * k / (n - 1)) (d / 2)
 

@@ -1,5 +1,5 @@
--- Document 01, "The sheet": how many words there are of each thing, and where in a slot they stand. These numbers stand
--- here and nowhere else in specs/; the program has them in src/layout.rt of this crate, C in include/gelumbrio.h.
+-- docs/RULES.md, "The sheet": how many words there are of each thing, and where in a slot they stand. These numbers
+-- stand here and nowhere else in specs/; the program has them in src/layout.rt of this crate, C in include/gelumbrio.h.
 --
 --   length       of a thing: how many words it has
 --   at           the word of a slot, counted from 0, with which a thing starts

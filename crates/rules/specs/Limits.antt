@@ -1,5 +1,6 @@
--- Document 01: the least and the most that a number of a record, of a group or of a slot may be. They stand here and
--- nowhere else in specs/; the program has them in src/limits.rt of this crate, C in include/gelumbrio.h.
+-- docs/RULES.md, "The sheet", "A record", "Groups and units" and, for ruby place, "Calls and answers": the least and
+-- the most that a number of a record, of a group or of a slot may be. They stand here and nowhere else in specs/; the
+-- program has them in src/limits.rt of this crate, C in include/gelumbrio.h.
 --
 -- Assumes nothing.
 use Rattle.std.specs.Prelude.{ℕ}

@@ -1,8 +1,7 @@
--- Document 02, request 04, "Classes checked against the published lists": a record's code point stands in the list of
--- its class. Answer 12. The lists are crate `lists`.
+-- "Which characters a class has": a record's code point stands in the list of its class. Answer 12. The lists are crate
+-- `lists`.
 -- Assumes nothing.
-use Rattle.std.specs.Prelude.{ℕ, Bool, List}
-use Rattle.std.proofs.Math.Option.{Option}
+use Rattle.std.specs.Prelude.{ℕ, Bool, List, Option}
 use Rattle.lists.specs.Lists.{in_list}
 use Rattle.rules.specs.Basics.{first_failing}
 use Rattle.rules.specs.Records.{Rec}

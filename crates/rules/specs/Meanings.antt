@@ -8,9 +8,10 @@
 --   fits                 every line's smallest width is within the measure, the first line's with the indent
 --   longest              no longer line that ends at a permitted break or the paragraph's end fits
 --   ruby placed          ruby place refuses no ruby character of a unit
---   listed               a record's code point stands in the list of its class (document 02, request 04)
+--   listed               a record's code point stands in the list of its class (docs/RULES.md,
+--                        "Which characters a class has")
 --   first lacking        the first element of a list that lacks a property
---   never opens          a character that is listed only under classes that start no line (request 04)
+--   never opens          a character that is listed only under classes that start no line (same section)
 --
 -- Assumes nothing.
 use Rattle.std.specs.Prelude.{◌≡◌, ℕ, ◌+◌, ◌≤◌, ◌<◌, Bool, true, false, List, [], ◌∷◌, ◌++◌, eqb, length}

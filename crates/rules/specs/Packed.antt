@@ -1,4 +1,4 @@
--- Document 02, request 02: a gap in one word, so that one addition sums its space and all its capacities.
+-- A gap in one word, so that one addition sums its space and all its capacities.
 --
 --   field        from the right: least, 20 bits wide; shrink stage 1 and shrink stage 2, 18 bits each; stretch stage
 --                2, 8 bits
@@ -7,12 +7,14 @@
 --   at most n    what n gaps add up to: sizes go to 4,000, and to 8,000 where a gap shrinks at stage 2. The sums of
 --                255 gaps stay in their fields
 --   words        what a size of 8 has of an entry, on the left and on the right
+--   taken        what an entry takes of a left and of a right size
 --
 -- Assumes nothing.
-use Rattle.std.specs.Prelude.{◌≡◌, ℕ, ◌+◌, ◌*◌, ◌/◌, ◌%◌, ◌≤◌, List, [], ◌∷◌, map}
+use Rattle.std.specs.Prelude.{◌≡◌, ℕ, ◌+◌, ◌*◌, ◌/◌, ◌%◌, ◌≤◌}
+use Rattle.std.proofs.Common.{arith}
 use Rattle.rules.specs.Limits.{largest_size}
 use Rattle.rules.specs.Gaps.{Gap, least}
-use Rattle.rules.specs.Spacing.{Entry, entries, named, gap_set}
+use Rattle.rules.specs.Spacing.{Entry, named, gap_set}
 
 -- the field of the least holds numbers below 2^20, that of a shrink stage numbers below 2^18
 abbrev pub least_field : ℕ
@@ -61,11 +63,11 @@ left_word e = packed (gap_set e 8 0 0)
 abbrev pub right_word : Entry → ℕ
 right_word e = packed (gap_set e 0 8 0)
 
-unfoldable pub entry_words : List (List ℕ)
-unfolding entries
-entry_words = map (λ e. left_word e ∷ right_word e ∷ []) entries
+-- an entry's words for each eighth of a left and of a right size, with no weight
+abbrev pub taken : ℕ → ℕ → ℕ → ℕ
+taken n left right = left / 8 * left_word (named n) + right / 8 * right_word (named n)
 
--- a word that has an entry's words for each eighth of a left and of a right size, and no weight
-pub record Taken (n left right w : ℕ) : Type 0 where
-  pub word : w ≡ left / 8 * left_word (named n) + right / 8 * right_word (named n)
-  pub small : w ≤ 549755813888000
+-- a word is that of the gap that it holds
+pub packed_unpacked : (w : ℕ) → packed (unpacked w) ≡ w
+unfolding packed unpacked
+packed_unpacked w = omega arith

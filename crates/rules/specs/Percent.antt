@@ -1,5 +1,5 @@
--- Document 02, request 01, "Five percent must stay together", said of two units, apart from the other forbidden
--- breaks.
+-- docs/RULES.md, "Where a line may be broken": five percent must stay together, said of two units, apart from the other
+-- forbidden breaks.
 --
 --   digit        an Arabic digit of class 27
 --   postfix      後置省略記号, a postfixed abbreviation, of class 13: % or ℃

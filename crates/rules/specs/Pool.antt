@@ -1,4 +1,4 @@
--- Document 02, request 07: slots taken and given back. A clinic's own slots are a pool, from which it takes one at a
+-- "Which slots are in use": slots taken and given back. A clinic's own slots are a pool, from which it takes one at a
 -- time and to which it gives them back; nothing of another clinic's slots is asked.
 --
 --   own slots    of a clinic on a sheet: their numbers and in-use words, in order
@@ -8,7 +8,7 @@
 --
 -- Assumes nothing.
 use Rattle.std.specs.Prelude.{ℕ, zero, suc, ◌+◌, ◌*◌, ◌-◌, Bool, cond, not, List, [], ◌∷◌, eqb, length, set}
-use Rattle.std.proofs.Math.Option.{Option, none, some}
+use Rattle.std.specs.Prelude.{Option, None, Some}
 use Rattle.rules.specs.Basics.{first_of, zeros}
 use Rattle.rules.specs.Layout.{slot_length, in_use_at}
 use Rattle.rules.specs.Sheet.{Setting, clinic_of, measure_of, indent_of, setting_of, slot_count, length_ok, slot_at}
@@ -31,13 +31,13 @@ own_slots ws caller = own_among (λ k. setting_of (slot_at ws k)) caller 0 (slot
 
 -- "its lowest-numbered slot whose word is 0"
 unfoldable pub lowest_free : List OwnSlot → Option ℕ
-lowest_free [] = none
-lowest_free (o ∷ own) = cond (eqb o.1 0) (some o.0) (lowest_free own)
+lowest_free [] = None
+lowest_free (o ∷ own) = cond (eqb o.1 0) (Some o.0) (lowest_free own)
 
 -- "refused .. with 13 exactly when the clinic has none"; "and is given its number"
 abbrev pub granted : Option ℕ → Answer
-granted none = says 13 0
-granted (some k) = says 0 k
+granted None = says 13 0
+granted (Some k) = says 0 k
 
 -- the rows 1 and 3 of a take, on a sheet of n words
 unfoldable pub take_rows : ℕ → ℕ → List (Bool × Answer)

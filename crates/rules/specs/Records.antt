@@ -1,4 +1,4 @@
--- Document 01, "Records and groups", first paragraph: a record and its own rules. Answer 8.
+-- "A record": its words and its own rules. Answer 8.
 --
 --   record       six words: code point, class, size, advance, group, ruby count
 --   class        文字クラス, one of eighteen, numbered as in JLReq: 1 opening bracket, 2 closing bracket, 3 hyphen,
@@ -10,8 +10,8 @@
 --   advance      字幅, what the character takes along the line
 --
 -- Assumes nothing.
-use Rattle.std.specs.Prelude.{ℕ, zero, suc, ◌+◌, ◌*◌, ◌/◌, ◌%◌, Bool, cond, not, ◌&&◌, List, [], ◌∷◌, leb, eqb, get_or}
-use Rattle.std.proofs.Math.Option.{Option}
+use Rattle.std.specs.Prelude.{ℕ, zero, suc, ◌+◌, ◌*◌, ◌/◌, ◌%◌, Bool, cond, not, ◌&&◌, List, [], ◌∷◌, leb}
+use Rattle.std.specs.Prelude.{eqb, get_or, Option}
 use Rattle.rules.specs.Basics.{is_in, within, first_failing}
 use Rattle.rules.specs.Layout.{record_length}
 use Rattle.rules.specs.Limits.{highest_code, size_step, least_size, largest_size, highest_group, most_ruby}

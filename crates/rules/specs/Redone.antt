@@ -1,5 +1,5 @@
--- Document 02, request 03, "How many lines did my edit redo?": how many lines an accepted edit composes anew. What is
--- promised of them, and what the words below mean said without their algorithms, stands in Stable.antt.
+-- docs/RULES.md, "How many lines an edit composes anew", where the edit is accepted. What is promised of them, and
+-- what the words below mean said without their algorithms, stands in Stable.antt.
 --
 --   old, new     the lines that the rules give the old and the new records
 --   start        of a line: the number of its first record

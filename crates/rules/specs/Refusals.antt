@@ -1,18 +1,18 @@
--- Document 01, "Refusal numbers, in the order they are checked": what each call answers and leaves. A call's table
--- has a row for each number that it gives, in that order; the first row that applies is the answer.
+-- "Calls and answers": what each call answers and leaves. A call's table has a row for each number that it gives, in
+-- the order in which they are checked; the first row that applies is the answer.
 --
 --   answer       a number and a place; success is 0 and the line count (set-up: 0 and P)
 --   outcome      what a call answers, and the words afterwards; "Every refusal leaves the whole sheet unchanged."
---   judged       answers 8, 12, 9 and 10 of records in a measure; 12 is request 04's
+--   judged       answers 8, 12, 9 and 10 of records in a measure
 --   sound        a slot to which answer 4 does not apply
 --   splice       the named stretch of records replaced
---   lines redone    the lines that an edit composes anew (document 02, request 03)
+--   lines redone    the lines that an edit composes anew
 --   on slot      a call on one slot of a sheet, by what it does to the slot's words
 --
 -- Assumes nothing.
 use Rattle.std.specs.Prelude.{ℕ, zero, suc, ◌+◌, ◌*◌, ◌-◌, ◌/◌, ◌%◌, Bool, true, false, cond, not, ◌&&◌, ◌||◌}
-use Rattle.std.specs.Prelude.{List, [], ◌∷◌, ◌++◌, leb, ltb, eqb, length, take, drop, get_or}
-use Rattle.std.proofs.Math.Option.{Option, none, some}
+use Rattle.std.specs.Prelude.{List, [], ◌∷◌, ◌++◌, leb, ltb, eqb, length, take, drop, get_or, Option, None}
+use Rattle.std.specs.Prelude.{Some}
 use Rattle.rules.specs.Basics.{first_of}
 use Rattle.rules.specs.Layout.{most_records, record_length, line_length, slot_length, lines_at}
 use Rattle.rules.specs.Records.{Rec, records, bad_record}
@@ -54,8 +54,8 @@ Outcome A = A × List ℕ
 
 -- 8 to 12 name a place where they apply
 abbrev pub or_else : ℕ → Option ℕ → Answer → Answer
-or_else n none a = a
-or_else n (some i) a = says n i
+or_else n None a = a
+or_else n (Some i) a = says n i
 
 -- records in a measure m with an indent x: 8, 12, 9, 10, or 0 and the line count. "New answer 12, checked after 8 and
 -- before 9"
@@ -172,11 +172,11 @@ setting_at clinics measures indents k = setting (get_or clinics k 0) (get_or mea
 
 -- 11: "a clinic, measure or indent out of limits", "first such slot", counted from k
 unfoldable pub bad_slot : ℕ → List ℕ → List ℕ → List ℕ → ℕ → Option ℕ
-bad_slot k clinics measures indents zero = none
+bad_slot k clinics measures indents zero = None
 bad_slot k clinics measures indents (suc n) =
     elim (slot_limits_ok (setting_at clinics measures indents k)) [
       | true ↦ bad_slot (suc k) clinics measures indents n
-      | false ↦ some k
+      | false ↦ Some k
     ]
 
 -- fresh slots of three lists, n of them from slot k on

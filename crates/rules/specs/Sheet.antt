@@ -1,9 +1,9 @@
--- Document 01, "The sheet": the words of a slot and of a sheet, and their limits.
+-- docs/RULES.md, "The sheet": the words of a slot and of a sheet, and their limits.
 --
 --   sheet        P slots of 2,824 words each, P from 1 to 64
 --   slot         head, 256 records, 256 places, 256 lines: 8 + 1,536 + 512 + 768 words
 --   head         clinic, measure, indent, record count, line count, in use, two zeros
---   in use       0 or 1: whether the slot's clinic has taken it (document 02, request 07)
+--   in use       0 or 1: whether the slot's clinic has taken it (docs/RULES.md, "Which slots are in use")
 --   setting      of a slot: clinic, measure, indent and in use
 --   place        of a record: x, line number
 --   line         first record, end x, kind

@@ -1,5 +1,5 @@
--- Document 01, "Records and groups" and "Breaks and adjustment", with document 02's request 01: what of a record its
--- neighbours see, and the breaks that are forbidden between two such sides.
+-- docs/RULES.md, "Groups and units" and "Where a line may be broken": what of a record its neighbours see, and the
+-- breaks that are forbidden between two such sides.
 --
 --   side                 class, size and code point, of a record alone or of one that starts a group
 --   L, R                 the left and the right side

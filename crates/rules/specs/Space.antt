@@ -1,4 +1,4 @@
--- Document 01, "Space between units": rules a to k.
+-- docs/RULES.md, "Space between units": rules a to k.
 --
 --   L, R         the left and the right unit's class
 --   space        字間のアキ, between two units of a line, in fractions of the left and of the right size

@@ -1,7 +1,8 @@
--- Request 06, "Both rows end together", said without the rule's floors: with two or more items a row of a group starts
--- and ends with the group, and only its inner gaps open; a single item stands in the middle; and the longer row does
--- not open at all. In CSS this is `ruby-align: space-between`; in source document 001, 4.4.3.3, the first of the other
--- ways, to open the gaps between characters until both rows are equally long.
+-- docs/RULES.md, "Where the characters of a group stand": both rows end together, said without the rule's floors: with
+-- two or more items a row of a group starts and ends with the group, and only its inner gaps open; a single item stands
+-- in the middle; and the longer row does not open at all. In CSS this is `ruby-align: space-between`; in source
+-- document 001, 4.4.3.3, the first of the other ways, to open the gaps between characters until both rows are equally
+-- long.
 --
 --   row     items, each told by its offset from the group's start, and by its advance
 --   gap     from an item's end to the next one's start

@@ -1,4 +1,4 @@
--- Document 02, request 02: the spacing table, eighteen rows of eighteen cells.
+-- docs/RULES.md, "Space between units": the spacing table, eighteen rows of eighteen cells.
 --
 --   row, column  the left and the right class, in the order of `classes`; in source document 004 before, 前, and
 --                after, 後ろ

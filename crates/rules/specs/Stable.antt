@@ -1,5 +1,5 @@
--- Document 02, request 03: what is promised of an edit's lines, and what k, r and the test of r mean, said without the
--- definitions of Redone.antt. proofs/Claims.antt proves each of these.
+-- docs/RULES.md, "How many lines an edit composes anew": what is promised of an edit's lines, and what k, r and the
+-- test of r mean, said without the definitions of Redone.antt. proofs/Claims.antt proves each of these.
 --
 --   stable       lines before f are the old ones, lines from r on are old lines, moved
 --   used words   of a slot: those of its places and lines up to the counts

@@ -1,22 +1,21 @@
-// "Breaks and adjustment": gaps with what they give and take, each in one word.
-ghost use Rattle.std.specs.Prelude.{◌≡◌, cond, ◌+◌, ◌*◌, ◌/◌, ◌<◌, ◌≤◌};
+// "How far a gap gives way": gaps with what they give and take, each in one word.
+ghost use Rattle.std.specs.Prelude.{◌≡◌, ◌*◌, ◌/◌, ◌≤◌};
 ghost use Rattle.rules.specs.Limits.{largest_size};
-ghost use Rattle.rules.specs.Records.{class_index};
 ghost use Rattle.rules.specs.Sides.{forbidden};
-ghost use Rattle.rules.specs.Gaps.{gap_of, plus};
-ghost use Rattle.rules.specs.Spacing.{spacing_table};
-ghost use Rattle.rules.specs.Packed.{least_in, unpacked, AtMost, entry_words, Taken};
+ghost use Rattle.rules.specs.Gaps.{gap_of, plus, least};
+ghost use Rattle.rules.specs.Tables.{part_word};
+ghost use Rattle.rules.specs.Packed.{AtMost};
 ghost use Rattle.rules.specs.Bounds.{SideOk};
 ghost use Rattle.rules.specs.Structs.{side_of, gap_from};
 
-use crate::basics::as_number;
 use crate::breaks::break_forbidden;
 use crate::groups::Side;
-use crate::spacing::{Entry, FIRST_FORBIDDEN};
-use lists::classes::MIDDLE_DOT;
+use crate::spacing::{OP, Part, cell_between};
+use lists::Class;
+use std::marker::Model;
 
-// The space between two units, and its capacity at each stage of adjustment.
-#[derive(Clone, Copy)]
+/// The space between two units, and its capacity at each stage of adjustment; at the last its weight.
+#[derive(Clone, Copy, Debug, PartialEq, Eq)]
 pub struct Gap {
     pub space: u32,
     pub shrink1: u32,
@@ -25,14 +24,28 @@ pub struct Gap {
     pub stretch2: u32,
 }
 
-// What stands between two units: the gap in one word, and 1 where the break is forbidden, else 0.
-#[derive(Clone, Copy)]
-pub struct Joint {
-    pub gap: u64,
-    pub forbidden: u32,
+/// A gap in one word, so that one addition sums its space and all its capacities: its least, then what shrink stage 1
+/// and shrink stage 2 take, then its weight at stretch stage 2. Any word is a gap's; clauses see the gap.
+#[derive(Clone, Copy, Debug, PartialEq, Eq)]
+#[tactic(auto, using(crate::specs::Packed::packed_unpacked))]
+pub struct PackedGap {
+    pub word: u64,
 }
 
-// A gap in one word: its least, then what shrink stage 1 and shrink stage 2 take, then its weight at stretch stage 2.
+impl Model for PackedGap {
+    ghost use Rattle.rules.specs.Gaps.{Gap};
+    ghost use Rattle.rules.specs.Packed.{packed, unpacked, packed_unpacked};
+    ghost use Rattle.std.proofs.Common.{ap};
+
+    ghost Value = { Gap };
+
+    ghost view = { λ g. unpacked g.word };
+
+    ghost inverse = { λ g. record { word = packed g } };
+
+    ghost inverse_ok = { λ g _. ap (λ w. record { word = w }) (packed_unpacked g.word) };
+}
+
 // One of each of the last three; the field of a shrink stage holds numbers below STAGE.
 const STAGE: u64 = 0x40000;
 
@@ -42,129 +55,104 @@ const SHRINK2: u64 = SHRINK1 * STAGE;
 
 const WEIGHT: u64 = SHRINK2 * STAGE;
 
-// What a size of 8 has of a quarter and of a half that do not give way, of a half that shrinks at stage 1, and of a
-// quarter that shrinks at stage 2.
-const QUARTER: u64 = 2;
+impl PackedGap {
+    /// No gap.
+    pub const NONE: PackedGap = PackedGap { word: 0 };
 
-const HALF: u64 = 4;
-
-const PUNCTUATION: u64 = 2 + 2 * SHRINK1;
-
-const JAPANESE_WESTERN: u64 = 1 + SHRINK2;
-
-// For each entry of the spacing table what it takes of a left size of 8, and of a right one.
-const WORDS: [[u64; 2]; 10] = [
-    [0, 0],
-    [QUARTER, QUARTER],
-    [HALF, QUARTER],
-    [0, QUARTER],
-    [QUARTER, 0],
-    [PUNCTUATION, 0],
-    [HALF, 0],
-    [0, PUNCTUATION],
-    [0, JAPANESE_WESTERN],
-    [JAPANESE_WESTERN, 0],
-];
-
-// The words, for a caller to lay down once and lend to each gap.
-pub fn entry_words() -> [[u64; 2]; 10]
-    ensures { result ≡ entry_words }
-{
-    WORDS
-}
-
-// A word for each eighth of a size.
-fn times(size: u32, word: u64) -> u64
-    requires { (size ≤ largest_size) × (word ≤ 549755813888) }
-    ensures { (result ≡ size / 8 * word) × (result ≤ 274877906944000) }
-{
-    (size / 8) as u64 * word
-}
-
-// What an entry takes of two sizes.
-fn taken(entry: usize, left: u32, right: u32, words: &[[u64; 2]; 10]) -> u64
-    requires { (entry < 10) × (left ≤ largest_size) × (right ≤ largest_size) × (words.now ≡ entry_words) }
-    ensures { Taken entry left right result }
-{
-    // nothing, as at most forbidden breaks: no product to make
-    if entry == 0 {
-        return 0;
+    /// The least that the gap can be.
+    #[tactic(auto, using(crate::proofs::Packed::least_unpacked))]
+    pub fn least(self) -> u32
+        ensures { result ≡ least self }
+    {
+        (self.word % SHRINK1) as u32
     }
-    times(left, words[entry][0]) + times(right, words[entry][1])
+
+    #[tactic(auto, unfolding(crate::specs::Packed::unpacked))]
+    pub fn unpack(self) -> Gap
+        ensures { gap_from result ≡ self }
+    {
+        let least = (self.word % SHRINK1) as u32;
+        let shrink1 = (self.word / SHRINK1 % STAGE) as u32;
+        let shrink2 = (self.word / SHRINK1 / STAGE % STAGE) as u32;
+        Gap {
+            space: least + shrink1 + shrink2,
+            shrink1,
+            shrink2,
+            stretch1: 2 * shrink2,
+            stretch2: (self.word / SHRINK1 / STAGE / STAGE) as u32,
+        }
+    }
+
+    /// Both gaps added up, as many as 255 of them.
+    #[tactic(auto, using(crate::proofs::Packed::unpacked_plus, crate::proofs::Packed::sum_fits))]
+    pub fn plus(self, other: PackedGap) -> PackedGap
+        requires { AtMost 255 (plus self other) }
+        ensures { result ≡ plus self other }
+    {
+        PackedGap {
+            word: self.word + other.word,
+        }
+    }
 }
 
-// The joint between two units. The caller has the indexes of the left and of the right class, and lends the
-// tables.
-pub fn joint_between(
-    l: Side,
-    r: Side,
-    left: usize,
-    right: usize,
-    spacing: &[[Entry; 18]; 18],
-    words: &[[u64; 2]; 10],
-) -> Joint
-    requires side_ok { SideOk (side_of l) × SideOk (side_of r) }
-    requires left_value { (left ≡ class_index l.class) × (right ≡ class_index r.class) }
-    requires spacing_value { (spacing.now ≡ spacing_table) × (words.now ≡ entry_words) }
-    ensures { (unpacked result.gap ≡ gap_of (side_of l) (side_of r))
-        × (result.forbidden ≡ cond (forbidden (side_of l) (side_of r)) 1 0) }
+/// What stands between two units, and whether the break there is forbidden.
+#[derive(Clone, Copy, Debug, PartialEq, Eq)]
+pub struct Joint {
+    pub gap: PackedGap,
+    pub forbidden: bool,
+}
+
+impl Part {
+    // What the part comes to of a size of 8, as a gap in one word.
+    fn word(self) -> u64
+        ensures { (result ≡ part_word self) × (result ≤ 549755813888) }
+    {
+        match self {
+            Part::Nothing => 0,
+            Part::Quarter => 2,
+            Part::Half => 4,
+            Part::Punctuation => 2 + 2 * SHRINK1,
+            Part::JapaneseWestern => 1 + SHRINK2,
+        }
+    }
+
+    // The part of a size: its word for each eighth.
+    fn of(self, size: u32) -> u64
+        requires { size ≤ largest_size }
+        ensures { (result ≡ size / 8 * part_word self) × (result ≤ 274877906944000) }
+    {
+        u64::from(size / 8) * self.word()
+    }
+}
+
+/// What stands between two units.
+#[tactic(auto, using(crate::proofs::GapWords::joint_laws))]
+pub fn joint_between(left: Side, right: Side) -> Joint
+    requires { SideOk (side_of left) × SideOk (side_of right) }
+    ensures gap { result.gap ≡ gap_of (side_of left) (side_of right) }
+    ensures forbidden { result.forbidden ≡ forbidden (side_of left) (side_of right) }
 {
-    let cell = as_number(spacing[left][right]);
+    let cell = cell_between(left.class, right.class);
     // most gaps: nothing, the break permitted, and a middle dot on neither side
-    if cell == 0 {
+    if cell == OP {
         return Joint {
-            gap: WEIGHT,
-            forbidden: 0,
+            gap: PackedGap { word: WEIGHT },
+            forbidden: false,
         };
     }
-    let forbidden = break_forbidden(cell, l, r);
-    let gap = taken((cell % FIRST_FORBIDDEN) as usize, l.size, r.size, words);
-    if forbidden {
+    let forbidden = break_forbidden(cell.line_break, left, right);
+    let word = cell.before.of(left.size) + cell.after.of(right.size);
+    // no weight where the break is forbidden, as it always is before a middle dot, nor after a middle dot
+    if forbidden || left.class == Class::MiddleDot as u32 {
         return Joint {
-            gap: gap,
-            forbidden: 1,
-        };
-    }
-    // no weight beside a middle dot; before it every break is forbidden
-    if l.class == MIDDLE_DOT {
-        return Joint {
-            gap: gap,
-            forbidden: 0,
+            gap: PackedGap { word },
+            forbidden,
         };
     }
     Joint {
-        gap: gap + WEIGHT,
-        forbidden: 0,
+        gap: PackedGap {
+            word: word + WEIGHT,
+        },
+        forbidden,
     }
-}
-
-// The least that a gap can be.
-pub fn least_of(gap: u64) -> u32
-    ensures { result ≡ least_in gap }
-{
-    (gap % SHRINK1) as u32
-}
-
-// A word's gap.
-pub fn unpack(gap: u64) -> Gap
-    ensures { gap_from result ≡ unpacked gap }
-{
-    let least = (gap % SHRINK1) as u32;
-    let shrink1 = (gap / SHRINK1 % STAGE) as u32;
-    let shrink2 = (gap / SHRINK1 / STAGE % STAGE) as u32;
-    Gap {
-        space: least + shrink1 + shrink2,
-        shrink1: shrink1,
-        shrink2: shrink2,
-        stretch1: 2 * shrink2,
-        stretch2: (gap / SHRINK1 / STAGE / STAGE) as u32,
-    }
-}
-
-// Sums with one gap more: one addition, whatever the gap gives and takes.
-pub fn added(sums: u64, gap: u64) -> u64
-    requires { AtMost 255 (plus (unpacked sums) (unpacked gap)) }
-    ensures { unpacked result ≡ plus (unpacked sums) (unpacked gap) }
-{
-    sums + gap
 }

@@ -58,10 +58,3 @@ pub const FIRST_RECORD: usize = 0;
 pub const END_X: usize = 1;
 
 pub const KIND: usize = 2;
-
-// The kinds of lines.
-pub const FLUSH: u32 = 1;
-
-pub const SHORT: u32 = 2;
-
-pub const FINAL: u32 = 3;

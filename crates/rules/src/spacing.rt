@@ -1,94 +1,121 @@
-// "Space between units" as a table, by document 02's request 02; with it where a break is forbidden.
-ghost use Rattle.std.specs.Prelude.{◌≡◌};
-ghost use Rattle.rules.specs.Spacing.{spacing_table};
+// "Space between units" as a table; with it where a break is forbidden.
+ghost use Rattle.std.specs.Prelude.{◌≡◌, true};
+ghost use Rattle.rules.specs.Records.{class_ok};
+ghost use Rattle.rules.specs.Tables.{IsCellOf};
 
-// A cell: the number of what stands between two classes, from 0 to 9, and what they say of the break there. So one
-// look tells both.
-pub type Entry = u8;
+use crate::classes::class_index;
 
-// Added where the break is forbidden, and where the code points decide; nothing is added where it is permitted.
-const FORBIDDEN: Entry = 16;
+/// What the space between two units takes of one of their sizes.
+#[derive(Clone, Copy, Debug, PartialEq, Eq)]
+pub(crate) enum Part {
+    /// 0.
+    Nothing,
+    /// 1/4 that does not give way.
+    Quarter,
+    /// 1/2 that does not give way.
+    Half,
+    /// 1/2 that shrinks at stage 1, down to 1/4.
+    Punctuation,
+    /// 1/4 that shrinks at stage 2, down to 1/8, and stretches at stage 1, up to 1/2.
+    JapaneseWestern,
+}
 
-const BY_CODE: Entry = 32;
+/// Whether a line may be broken between two units.
+#[derive(Clone, Copy, Debug, PartialEq, Eq)]
+pub(crate) enum Break {
+    Permitted,
+    Forbidden,
+    /// The code points decide.
+    ByCode,
+}
 
-// So below the first of these the break is permitted, and below the second the code points are not asked.
-pub(crate) const FIRST_FORBIDDEN: u32 = FORBIDDEN as u32;
+/// What stands between two classes: the part of the size before the gap, the part of the size after it, and the break.
+#[derive(Clone, Copy, Debug, PartialEq, Eq)]
+pub(crate) struct Cell {
+    pub before: Part,
+    pub after: Part,
+    pub line_break: Break,
+}
 
-pub(crate) const FIRST_BY_CODE: u32 = BY_CODE as u32;
+macro_rules! cell {
+    ($before:ident, $after:ident, $line_break:ident) => {
+        Cell {
+            before: Part::$before,
+            after: Part::$after,
+            line_break: Break::$line_break,
+        }
+    };
+}
 
-// The entries, by the letter of the rule that sets each and in source document 004's words: a half or a quarter
-// of the size before the gap, be, or after it, af. Where one stands at forbidden breaks too, T is added to its name.
-// Nothing, 無印: rules e and k, and f, g and h where they set 0. T alone where the break is forbidden, Q where the code
-// points are asked.
-const O: Entry = 0;
+// The cells, by the letter of the rule that sets the space, or O where it is nothing: rules e and k, and f, g and h
+// where they set 0. Then P where the break is permitted, X where it is forbidden, C where the code points decide.
+pub(crate) const OP: Cell = cell!(Nothing, Nothing, Permitted);
 
-const T: Entry = O + FORBIDDEN;
+const OX: Cell = cell!(Nothing, Nothing, Forbidden);
 
-const Q: Entry = O + BY_CODE;
+const OC: Cell = cell!(Nothing, Nothing, ByCode);
 
-// 1/4 be + 1/4 af. This and the next two stand before class 5, where every break is forbidden.
-const A: Entry = 1 + FORBIDDEN;
+const AX: Cell = cell!(Quarter, Quarter, Forbidden);
 
-// 1/2 be + 1/4 af.
-const B: Entry = 2 + FORBIDDEN;
+const BX: Cell = cell!(Half, Quarter, Forbidden);
 
-// 1/4 af.
-const C: Entry = 3 + FORBIDDEN;
+const CX: Cell = cell!(Nothing, Quarter, Forbidden);
 
-// 1/4 be.
-const D: Entry = 4;
+const DP: Cell = cell!(Quarter, Nothing, Permitted);
 
-const DT: Entry = D + FORBIDDEN;
+const DX: Cell = cell!(Quarter, Nothing, Forbidden);
 
-// 1/2 be that shrinks at stage 1: rule f, and rule g after class 7.
-const F: Entry = 5;
+// Rule f, and rule g after class 7.
+const FP: Cell = cell!(Punctuation, Nothing, Permitted);
 
-const FT: Entry = F + FORBIDDEN;
+const FX: Cell = cell!(Punctuation, Nothing, Forbidden);
 
-// 1/2 be: rule g after class 6.
-const G: Entry = 6;
+// Rule g after class 6.
+const GP: Cell = cell!(Half, Nothing, Permitted);
 
-const GT: Entry = G + FORBIDDEN;
+const GX: Cell = cell!(Half, Nothing, Forbidden);
 
-// 1/2 af that shrinks at stage 1.
-const H: Entry = 7;
+const HP: Cell = cell!(Nothing, Punctuation, Permitted);
 
-const HT: Entry = H + FORBIDDEN;
+const HX: Cell = cell!(Nothing, Punctuation, Forbidden);
 
-// 1/4 af that shrinks at stage 2 and stretches at stage 1.
-const I: Entry = 8;
+const IP: Cell = cell!(Nothing, JapaneseWestern, Permitted);
 
-const IT: Entry = I + FORBIDDEN;
+const IX: Cell = cell!(Nothing, JapaneseWestern, Forbidden);
 
-// 1/4 be that shrinks at stage 2 and stretches at stage 1.
-const J: Entry = 9;
+const JP: Cell = cell!(JapaneseWestern, Nothing, Permitted);
+
+macro_rules! row {
+    ($($cell:ident)*) => { [$($cell),*] };
+}
 
 // A row for each class before the gap, a column for each class after it.
-const SPACING: [[Entry; 18]; 18] = [
-    // 1  2  3  4  5  6  7  8  9  10 11 12 13 14 15 16 19 27
-    [T, T, T, T, C, T, T, T, T, T, T, T, T, T, T, T, T, T], // 1
-    [F, T, FT, FT, C, T, T, F, FT, FT, FT, F, F, O, F, F, F, F], // 2
-    [H, T, T, T, C, T, T, O, T, T, T, O, O, O, O, O, O, O], // 3
-    [H, T, T, T, C, T, T, O, T, T, T, O, O, O, O, O, O, J], // 4
-    [D, DT, DT, DT, A, DT, DT, D, DT, DT, DT, D, D, D, D, D, D, D], // 5
-    [G, T, GT, GT, B, T, T, G, GT, GT, GT, G, G, G, G, G, G, G], // 6
-    [F, T, FT, FT, B, T, T, F, FT, FT, FT, F, F, F, F, F, F, F], // 7
-    [H, T, T, T, C, T, T, Q, T, T, T, O, O, O, O, O, O, O], // 8
-    [H, T, T, T, C, T, T, O, T, T, T, O, O, O, O, O, O, J], // 9
-    [H, T, T, T, C, T, T, O, T, T, T, O, O, O, O, O, O, J], // 10
-    [H, T, T, T, C, T, T, O, T, T, T, O, O, O, O, O, O, J], // 11
-    [HT, T, T, T, C, T, T, T, T, T, T, T, T, T, T, T, T, T], // 12
-    [H, T, T, T, C, T, T, O, T, T, T, O, O, O, O, O, O, O], // 13
-    [O, T, T, T, C, T, T, O, T, T, T, O, O, O, O, O, O, O], // 14
-    [H, T, T, T, C, T, T, O, T, T, T, O, O, O, O, O, O, J], // 15
-    [H, T, T, T, C, T, T, O, T, T, T, O, O, O, O, O, O, J], // 16
-    [H, T, T, T, C, T, T, O, T, T, T, O, O, O, O, O, O, J], // 19
-    [H, T, T, T, C, T, T, O, IT, IT, IT, O, Q, O, I, I, I, T], // 27
+static SPACING: [[Cell; 18]; 18] = [
+    //   1  2  3  4  5  6  7  8  9  10 11 12 13 14 15 16 19 27
+    row!(OX OX OX OX CX OX OX OX OX OX OX OX OX OX OX OX OX OX), // 1
+    row!(FP OX FX FX CX OX OX FP FX FX FX FP FP OP FP FP FP FP), // 2
+    row!(HP OX OX OX CX OX OX OP OX OX OX OP OP OP OP OP OP OP), // 3
+    row!(HP OX OX OX CX OX OX OP OX OX OX OP OP OP OP OP OP JP), // 4
+    row!(DP DX DX DX AX DX DX DP DX DX DX DP DP DP DP DP DP DP), // 5
+    row!(GP OX GX GX BX OX OX GP GX GX GX GP GP GP GP GP GP GP), // 6
+    row!(FP OX FX FX BX OX OX FP FX FX FX FP FP FP FP FP FP FP), // 7
+    row!(HP OX OX OX CX OX OX OC OX OX OX OP OP OP OP OP OP OP), // 8
+    row!(HP OX OX OX CX OX OX OP OX OX OX OP OP OP OP OP OP JP), // 9
+    row!(HP OX OX OX CX OX OX OP OX OX OX OP OP OP OP OP OP JP), // 10
+    row!(HP OX OX OX CX OX OX OP OX OX OX OP OP OP OP OP OP JP), // 11
+    row!(HX OX OX OX CX OX OX OX OX OX OX OX OX OX OX OX OX OX), // 12
+    row!(HP OX OX OX CX OX OX OP OX OX OX OP OP OP OP OP OP OP), // 13
+    row!(OP OX OX OX CX OX OX OP OX OX OX OP OP OP OP OP OP OP), // 14
+    row!(HP OX OX OX CX OX OX OP OX OX OX OP OP OP OP OP OP JP), // 15
+    row!(HP OX OX OX CX OX OX OP OX OX OX OP OP OP OP OP OP JP), // 16
+    row!(HP OX OX OX CX OX OX OP OX OX OX OP OP OP OP OP OP JP), // 19
+    row!(HP OX OX OX CX OX OX OP IX IX IX OP OC OP IP IP IP OX), // 27
 ];
 
-// The table, for a caller to lay down once and lend to each lookup.
-pub fn spacing_table() -> [[Entry; 18]; 18]
-    ensures { result ≡ spacing_table }
+// What the table has for two classes.
+pub(crate) fn cell_between(left: u32, right: u32) -> Cell
+    requires { (class_ok left ≡ true) × (class_ok right ≡ true) }
+    ensures { IsCellOf left right result }
 {
-    SPACING
+    SPACING[class_index(left)][class_index(right)]
 }

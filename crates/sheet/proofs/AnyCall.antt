@@ -1,16 +1,9 @@
 -- Any call: what it leaves alone and what it goes by, on sheets of any words. Assumes nothing.
-use mathlib.Core.Path.{◌≡◌, refl, ap, ◌∙◌}
-use Prim.Native.Nat.{ℕ}
-use native.Mathlib.Omega.{arith}
-use mathlib.Core.Bool.{false}
-use mathlib.Core.List.{List}
-use mathlib.Core.Logic.{inl, inr}
-use lib.Dec.{eqb}
-use lib.ListN.{length}
-use borrow.Author.Tests.{eqb-true, eq-eqb, ne_eqb}
+use Rattle.std.proofs.Common.{◌≡◌, refl, ap, ◌∙◌, ℕ, arith, false, List, inl, inr, eqb, length, eqb-true, eq-eqb}
+use Rattle.std.proofs.Common.{ne_eqb}
 use Rattle.rules.specs.Sheet.{clinic_of, slot_count, slot_at}
 use Rattle.rules.specs.Refusals.{set_up_answer, set_up}
-use Rattle.rules.proofs.Decisions.{tested}
+use Rattle.std.proofs.lemmas.Bool.{cases_Bool}
 use Rattle.sheet.specs.Book.{Call, call_set_up, call_take, call_on, answer_reply, edit_reply, number_of, refusal}
 use Rattle.sheet.specs.Book.{fault_of}
 use Rattle.sheet.specs.OnSheet.{in_slot, step}
@@ -36,7 +29,7 @@ refused_unchanged (call_on caller k q) ws =
 pub step_length : (c : Call) (ws : List ℕ) → length (step c ws).1 ≡ length ws
 unfolding set_up
 step_length (call_set_up clinics measures indents) ws =
-    elim (tested (eqb (set_up_answer (length ws) clinics measures indents).number 0)) [
+    elim (cases_Bool (eqb (set_up_answer (length ws) clinics measures indents).number 0)) [
       | inl e ↦
           let f = accepted clinics measures indents (length ws) (eqb-true _ _ e) in
           rw e (length_fresh_slots clinics measures indents 0 (slot_count ws) ∙ omega (arith, f.slots, f.exact))

@@ -1,19 +1,13 @@
 -- The book's slots follow their histories. Assumes nothing.
-use mathlib.Core.Path.{◌≡◌, refl, sym, ap, ◌∙◌}
-use Prim.Native.Nat.{ℕ, zero, suc, ◌/◌, ◌<◌}
-use native.Mathlib.Omega.{arith}
-use mathlib.Core.Bool.{cond, ◌&&◌, and-true, and-false}
-use mathlib.Core.List.{List, [], ◌∷◌, ◌++◌}
-use mathlib.Core.Logic.{inl, inr}
-use lib.Dec.{eqb}
-use lib.ListN.{length}
-use lib.Seq.{get_or-set_same, get_or-set_other}
-use borrow.Author.Tests.{eqb-true, eqb-false}
+use Rattle.std.proofs.Common.{◌≡◌, refl, sym, ap, ◌∙◌, ℕ, zero, suc, ◌/◌, ◌<◌, arith, cond, ◌&&◌, List, [], ◌∷◌, ◌++◌}
+use Rattle.std.proofs.Common.{inl, inr, eqb, length, get_or-set_same, get_or-set_other, eqb-true}
+use Rattle.std.proofs.Math.Bool.{and-true, and-false}
+use borrow.Author.Tests.{eqb-false}
 use Rattle.rules.specs.Layout.{slot_length}
 use Rattle.rules.specs.Records.{Rec}
 use Rattle.rules.specs.Refusals.{set_up_answer}
 use Rattle.rules.specs.Pool.{take_answer}
-use Rattle.rules.proofs.Decisions.{tested}
+use Rattle.std.proofs.lemmas.Bool.{cases_Bool}
 use Rattle.sheet.specs.Book.{SlotCall, edits, imports, reads, gives_back, Call, call_set_up, call_take, call_on}
 use Rattle.sheet.specs.Book.{edit_reply, refusal, fault_of, BookSlot, used, book_at, empty_slots, book_set_up, book_own}
 use Rattle.sheet.specs.Book.{book_take, book_entry_answer, on_book_slot, book_edited, book_edit, in_book, book_step}
@@ -40,7 +34,7 @@ edit_follows : (place deleted : ℕ) (inserted : List ℕ) (q : SlotCall) (s : B
     Follows o.1 (cond (eqb o.0.number 0) (further q h) h)
 unfolding book_edit book_edited
 edit_follows place deleted inserted q s h f same =
-    elim (tested (eqb (book_answer place deleted inserted s).number 0)) [
+    elim (cases_Bool (eqb (book_answer place deleted inserted s).number 0)) [
       | inl e ↦
           rw e
           (record {
@@ -76,7 +70,7 @@ pub set_up_follows : (n : ℕ) (clinics measures indents : List ℕ) (b : List B
     Follows (book_at o.1 k) (next k (call_set_up clinics measures indents) o.0 h)
 unfolding book_set_up
 set_up_follows n clinics measures indents b k h f =
-    elim (tested (eqb (set_up_answer n clinics measures indents).number 0)) [
+    elim (cases_Bool (eqb (set_up_answer n clinics measures indents).number 0)) [
       | inl e ↦ rw e (empty_follows clinics measures indents 0 (n / slot_length) k)
       | inr e ↦ rw e f
     ]
@@ -90,9 +84,9 @@ module _ (n : ℕ) (b : List BookSlot) (g : WellFormed n b) (k : ℕ) (within : 
   unfolding book_take
   take_follows caller =
       let a = take_answer n caller (book_own n caller b) in
-      elim (tested (eqb a.number 0)) [
+      elim (cases_Bool (eqb a.number 0)) [
         | inl e ↦
-            elim (tested (eqb a.place k)) [
+            elim (cases_Bool (eqb a.place k)) [
               | inl t ↦
                   let here = eqb-true a.place k t in
                   let free = granted_free n b g caller (eqb-true _ _ e) in
@@ -109,9 +103,9 @@ module _ (n : ℕ) (b : List BookSlot) (g : WellFormed n b) (k : ℕ) (within : 
   unfolding on_book_slot
   on_follows q caller j =
       let a = book_entry_answer n caller j b in
-      elim (tested (eqb a.number 0)) [
+      elim (cases_Bool (eqb a.number 0)) [
         | inl e ↦
-            elim (tested (eqb j k)) [
+            elim (cases_Bool (eqb j k)) [
               | inl t ↦
                   let here = eqb-true j k t in
                   rw (e, t, here, get_or-set_same b k (in_book q (book_at b k)).1 _ within, and-true)

@@ -1,11 +1,6 @@
 -- Whole sequences of calls: on the sheet and in the book they give the same replies, and the sheet then holds the
 -- book's words. Assumes nothing.
-use mathlib.Core.Path.{◌≡◌, refl, ap, ◌∙◌}
-use Prim.Native.Nat.{ℕ, ◌/◌}
-use native.Mathlib.Omega.{arith}
-use mathlib.Core.List.{List, [], ◌∷◌, ◌++◌}
-use lib.ListN.{length}
-use borrow.Author.Tests.{eq-eqb, ne_eqb}
+use Rattle.std.proofs.Common.{◌≡◌, refl, ap, ◌∙◌, ℕ, ◌/◌, arith, List, [], ◌∷◌, ◌++◌, length, eq-eqb, ne_eqb}
 use Rattle.rules.specs.Layout.{slot_length}
 use Rattle.rules.specs.Refusals.{Outcome, set_up_answer, set_up}
 use Rattle.rules.specs.Meanings.{All, all_none, all_more}

@@ -1,22 +1,15 @@
 -- One slot: an edit of a sound slot's words does what the book does with its records, and the single edit leaves
 -- them. Assumes nothing.
-use mathlib.Core.Path.{◌≡◌, refl, sym, ap, ◌∙◌}
-use Prim.Native.Nat.{ℕ, ◌+◌, ◌-◌, ◌/◌, ◌%◌, ◌≤◌}
-use native.Mathlib.Omega.{arith}
-use mathlib.Core.Bool.{true, false, cond, ◌||◌}
-use mathlib.Core.List.{List, [], ◌∷◌, append-nil}
-use mathlib.Core.Logic.{inl, inr}
-use lib.Dec.{leb, ltb, eqb}
-use lib.ListN.{length, length-append, length-drop}
-use lib.Seq.{length-take-le}
-use borrow.Author.Tests.{ltb-false, le-leb, le-ltb, eqb-true, eq-eqb}
+use Rattle.std.proofs.Common.{◌≡◌, refl, sym, ap, ◌∙◌, ℕ, ◌+◌, ◌-◌, ◌/◌, ◌%◌, ◌≤◌, arith, true, false, cond, ◌||◌}
+use Rattle.std.proofs.Common.{List, [], ◌∷◌, append-nil, inl, inr, leb, ltb, eqb, length, length-append, length-drop}
+use Rattle.std.proofs.Common.{length-take-le, ltb-false, le-leb, le-ltb, eqb-true, eq-eqb}
 use Rattle.rules.specs.Basics.{first_of}
 use Rattle.rules.specs.Layout.{most_records, record_length}
 use Rattle.rules.specs.Records.{Rec, records, record_words}
 use Rattle.rules.specs.Sheet.{slot_words, measure_of, indent_of, setting_of, limits_ok}
 use Rattle.rules.specs.Refusals.{Answer, EditAnswer, reporting, Outcome, judged, sound, splice, edited, edit_redone}
 use Rattle.rules.specs.Refusals.{slot_rows, edit_slot}
-use Rattle.rules.proofs.Decisions.{tested}
+use Rattle.std.proofs.lemmas.Bool.{cases_Bool}
 use Rattle.rules.proofs.RecordLimits.{and_right}
 use Rattle.sheet.specs.Book.{BookSlot, with_records, book_edit_rows, book_edited, book_redone, fresh_slot, single_of}
 use Rattle.sheet.specs.Book.{single}
@@ -113,14 +106,14 @@ module _ (s : BookSlot) (h : Sound s) where
         let a = book_answer place deleted inserted s in
         rw (same_answer, same_words, same_redone)
         (ap (λ w. (reporting a (book_redone place deleted inserted s), w))
-        (elim (tested (eqb a.number 0)) [ inl e ↦ rw e | inr e ↦ rw e ]))
+        (elim (cases_Bool (eqb a.number 0)) [ inl e ↦ rw e | inr e ↦ rw e ]))
 
 -- an edit of an assigned slot in use leaves a sound slot
 pub edited_sound : (place deleted : ℕ) (inserted : List ℕ) (s : BookSlot) → Sound s → (s.setting.clinic ≡ 0 → ⊥) →
     (s.setting.in_use ≡ 0 → ⊥) → Sound (book_after place deleted inserted s)
 unfolding book_edited book_edit_rows
 edited_sound place deleted inserted s h assigned used =
-    elim (tested (eqb (book_answer place deleted inserted s).number 0)) [
+    elim (cases_Bool (eqb (book_answer place deleted inserted s).number 0)) [
       | inl e ↦
           let p = passed 0 (book_edit_rows place deleted inserted s) _ refl (eqb-true _ _ e) in
           rw e

@@ -1,17 +1,11 @@
 -- The book stays well-formed: after an accepted set-up, and after each call from then on; and answer 4 does not come
 -- up in it. Assumes nothing.
-use mathlib.Core.Path.{◌≡◌, refl, ap, ◌∙◌}
-use Prim.Native.Nat.{ℕ, ◌/◌}
-use native.Mathlib.Omega.{arith}
-use mathlib.Core.List.{List}
-use mathlib.Core.Logic.{inl, inr}
-use lib.Dec.{eqb}
-use lib.ListN.{length, set, length-set}
-use lib.Seq.{set-get_or}
-use borrow.Author.Tests.{eqb-true, ne_eqb}
+use Rattle.std.proofs.Common.{◌≡◌, refl, ap, ◌∙◌, ℕ, ◌/◌, arith, List, inl, inr, eqb, length, set, length-set}
+use Rattle.std.proofs.Common.{eqb-true, ne_eqb}
+use Rattle.std.proofs.Math.Seq.{set-get_or}
 use Rattle.rules.specs.Layout.{slot_length}
 use Rattle.rules.specs.Refusals.{says, set_up_answer}
-use Rattle.rules.proofs.Decisions.{tested}
+use Rattle.std.proofs.lemmas.Bool.{cases_Bool}
 use Rattle.rules.specs.Pool.{take_answer}
 use Rattle.sheet.specs.Book.{SlotCall, Call, call_set_up, call_take, call_on, Reply, edit_reply, number_of}
 use Rattle.sheet.specs.Book.{refusal, fault_of, BookSlot, used, book_at, empty_slots, book_set_up, book_own, book_take}
@@ -52,7 +46,7 @@ module _ (n : ℕ) (b : List BookSlot) (g : WellFormed n b) where
   on_stays : (q : SlotCall) (caller k : ℕ) → WellFormed n (on_book_slot (refusal q) n caller k (in_book q) b).1
   unfolding on_book_slot
   on_stays q caller k =
-      elim (tested (eqb (book_entry_answer n caller k b).number 0)) [
+      elim (cases_Bool (eqb (book_entry_answer n caller k b).number 0)) [
         | inl e ↦
             let z = eqb-true _ _ e in
             rw e (with_sound k _ ((keeps q).sound (book_at b k) (here n b g caller k z) (assigned n b g caller k z)
@@ -75,7 +69,7 @@ module _ (n : ℕ) (b : List BookSlot) (g : WellFormed n b) where
   unfolding book_take
   take_stays caller =
       let a = take_answer n caller (book_own n caller b) in
-      elim (tested (eqb a.number 0)) [
+      elim (cases_Bool (eqb a.number 0)) [
         | inl e ↦
             rw e
             (with_sound a.place _
@@ -87,7 +81,7 @@ module _ (n : ℕ) (b : List BookSlot) (g : WellFormed n b) where
   pub stays : (c : Call) → WellFormed n (book_step n c b).1
   unfolding book_set_up
   stays (call_set_up clinics measures indents) =
-      elim (tested (eqb (set_up_answer n clinics measures indents).number 0)) [
+      elim (cases_Bool (eqb (set_up_answer n clinics measures indents).number 0)) [
         | inl e ↦ rw e (new_book n clinics measures indents (eqb-true _ _ e))
         | inr e ↦ rw e g
       ]
@@ -104,7 +98,7 @@ module _ (q : SlotCall) (n caller k : ℕ) (b : List BookSlot) where
   pub on_book_not_4 : number_of out.0 ≡ 4 → ⊥
   unfolding on_book_slot book_entry_rows
   on_book_not_4 =
-      elim (tested (eqb (book_entry_answer n caller k b).number 0)) [
+      elim (cases_Bool (eqb (book_entry_answer n caller k b).number 0)) [
         | inl e ↦ rw e ((keeps q).never_4 (book_at b k))
         | inr e ↦ rw (e, (keeps q).number (book_entry_answer n caller k b)) (λ f. not_4 f)
       ]
@@ -116,7 +110,7 @@ module _ (q : SlotCall) (n caller k : ℕ) (b : List BookSlot) where
   on_book_unchanged : (number_of out.0 ≡ 0 → ⊥) → out.1 ≡ b
   unfolding on_book_slot
   on_book_unchanged =
-      elim (tested (eqb (book_entry_answer n caller k b).number 0)) [
+      elim (cases_Bool (eqb (book_entry_answer n caller k b).number 0)) [
         | inl e ↦ rw e (λ z. ap (set b k) ((keeps q).book_unchanged (book_at b k) z) ∙ set-get_or b k _)
         | inr e ↦ rw e (λ z. refl)
       ]

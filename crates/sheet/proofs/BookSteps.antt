@@ -1,17 +1,10 @@
 -- Each call on a sheet that holds a well-formed book does what the book does. Assumes nothing.
-use mathlib.Core.Path.{◌≡◌, sym, ap, ◌∙◌}
-use Prim.Native.Nat.{ℕ, ◌/◌, ◌<◌}
-use native.Mathlib.Omega.{arith}
-use mathlib.Core.List.{List}
-use mathlib.Core.Logic.{inl, inr}
-use lib.Dec.{eqb}
-use lib.ListN.{length, set}
-use borrow.Author.Tests.{eqb-true}
+use Rattle.std.proofs.Common.{◌≡◌, sym, ap, ◌∙◌, ℕ, ◌/◌, ◌<◌, arith, List, inl, inr, eqb, length, set, eqb-true}
 use Rattle.rules.specs.Layout.{slot_length}
 use Rattle.rules.specs.Sheet.{Setting, in_use_of, slot_at, with_slot}
 use Rattle.rules.specs.Refusals.{Answer, Outcome, entry_rows, entry_answer, on_slot, set_up_answer, set_up}
 use Rattle.rules.specs.Pool.{own_slots, take_answer, use_at, taking}
-use Rattle.rules.proofs.Decisions.{tested}
+use Rattle.std.proofs.lemmas.Bool.{cases_Bool}
 use Rattle.rules.proofs.SlotWords.{slot_with_use}
 use Rattle.sheet.specs.Book.{SlotCall, Call, call_set_up, call_take, call_on, answer_reply, refusal, fault_of}
 use Rattle.sheet.specs.Book.{BookSlot, used, book_at, book_set_up, book_own, book_take, book_entry_rows}
@@ -42,7 +35,7 @@ module _ (n : ℕ) (b : List BookSlot) (g : WellFormed n b) where
   set_ups clinics measures indents =
       let a = set_up_answer n clinics measures indents in
       rw (exact, encode_empty clinics measures indents 0 (n / slot_length))
-      (ap (λ w. (a, w)) (elim (tested (eqb a.number 0)) [ inl e ↦ rw e | inr e ↦ rw e ]))
+      (ap (λ w. (a, w)) (elim (cases_Bool (eqb a.number 0)) [ inl e ↦ rw e | inr e ↦ rw e ]))
 
   -- Take
   module _ (caller : ℕ) where
@@ -88,7 +81,7 @@ module _ (n : ℕ) (b : List BookSlot) (g : WellFormed n b) where
     takes =
         rw (same_own, exact)
         (ap (λ w. (answer, w))
-        (elim (tested (eqb answer.number 0)) [
+        (elim (cases_Bool (eqb answer.number 0)) [
           | inl e ↦ rw (e, used_words answer.place (granted_within (eqb-true _ _ e)))
           | inr e ↦ rw e
         ]))
@@ -133,7 +126,7 @@ module _ (n : ℕ) (b : List BookSlot) (g : WellFormed n b) where
         in_words (on_book_slot (refusal q) n caller k (in_book q) b)
     unfolding on_slot on_book_slot
     on_slots q =
-        elim (tested (eqb first.number 0)) [
+        elim (cases_Bool (eqb first.number 0)) [
           | inl e ↦
               let z = eqb-true _ _ e in
               rw (same_entry, e, found z, (keeps q).booked slot (here z), with_slot_encoded b g.sound k (within_book z))

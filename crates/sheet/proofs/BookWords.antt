@@ -1,14 +1,10 @@
 -- Laws of a book's words: where a slot's words stand, and what stands there after one slot is changed.
 -- Assumes nothing.
-use mathlib.Core.Path.{◌≡◌, refl, sym, ap, ◌∙◌}
-use Prim.Native.Nat.{ℕ, zero, suc, ◌*◌, ◌≤◌, ◌<◌}
-use native.Mathlib.Omega.{arith}
-use mathlib.Core.Bool.{true}
-use mathlib.Core.List.{List, [], ◌∷◌, ◌++◌, append_assoc}
-use mathlib.Core.Logic.{inl, inr}
-use mathlib.Core.Option.{none, some}
-use lib.ListN.{length, get_or, take, drop, set, length-append, drop_of_length-le, get_or-eq_default}
-use lib.Seq.{take_at, drop_at, split_at, set_split, length-take-le}
+use Rattle.std.proofs.Common.{◌≡◌, refl, sym, ap, ◌∙◌, ℕ, zero, suc, ◌*◌, ◌≤◌, ◌<◌, arith, true, List, [], ◌∷◌, ◌++◌}
+use Rattle.std.proofs.Common.{append_assoc, inl, inr, None, Some, length, get_or, take, drop, set, length-append}
+use Rattle.std.proofs.Common.{drop_of_length-le, take_at, drop_at, length-take-le}
+use Rattle.std.proofs.Math.ListN.{get_or-eq_default}
+use Rattle.std.proofs.Math.Seq.{split_at, set_split}
 use Rattle.rules.specs.Layout.{most_records, slot_length}
 use Rattle.rules.specs.Records.{bad_record}
 use Rattle.rules.specs.Basics.{cut, first_failing}
@@ -18,7 +14,8 @@ use Rattle.rules.specs.Breaks.{runs, wide_run, no_breaking}
 use Rattle.rules.specs.Sheet.{Setting, setting_of, slot_limits_ok, slot_at, with_slot}
 use Rattle.rules.specs.Refusals.{judged, setting_at, bad_slot, fresh_slots}
 use Rattle.rules.specs.Meanings.{All, all_none, all_more}
-use Rattle.rules.proofs.Decisions.{tested, ordered, some_none}
+use Rattle.std.proofs.lemmas.Bool.{cases_Bool, cases_lt}
+use Rattle.std.proofs.lemmas.Option.{none-some}
 use Rattle.rules.proofs.All.{all_take}
 use Rattle.sheet.specs.Book.{BookSlot, book_at, empty_slots}
 use Rattle.sheet.specs.OnSheet.{encode_slot, encode}
@@ -109,7 +106,7 @@ module _ (b : List BookSlot) (h : All Sound b) (k : ℕ) (within : k < length b)
 pub setting_in_book : (b : List BookSlot) → All Sound b → (k : ℕ) →
     setting_of (slot_at (encode b) k) ≡ (book_at b k).setting
 setting_in_book b h k =
-    elim (ordered k (length b)) [
+    elim (cases_lt k (length b)) [
       | inl w ↦ ap setting_of (slot_of b h k w) ∙ slot_setting (book_at b k).setting (book_at b k).records
       | inr w ↦
           let none : drop (slot_length * k) (encode b) ≡ []
@@ -146,14 +143,14 @@ module _ (clinics measures indents : List ℕ) where
   length_empty k zero = refl
   length_empty k (suc n) = ap suc (length_empty (suc k) n)
 
-  pub sound_empty : (k n : ℕ) → bad_slot k clinics measures indents n ≡ none →
+  pub sound_empty : (k n : ℕ) → bad_slot k clinics measures indents n ≡ None →
       All Sound (empty_slots k clinics measures indents n)
   unfolding bad_slot empty_slots
   sound_empty k zero e = all_none
   sound_empty k (suc n) e =
-      elim (tested (slot_limits_ok (setting_at clinics measures indents k))) [
+      elim (cases_Bool (slot_limits_ok (setting_at clinics measures indents k))) [
         | inl t ↦
             all_more (sound_none (setting_at clinics measures indents k) t (omega arith))
             (sound_empty (suc k) n (rw (t, bad_slot) at e))
-        | inr t ↦ let f : some k ≡ none = rw (t, bad_slot) at e in absurd (some_none f)
+        | inr t ↦ let f : Some k ≡ None = rw (t, bad_slot) at e in absurd (none-some _ (sym f))
       ]

@@ -4,13 +4,8 @@
 -- claims are defined in specs/: Book, OnSheet, Meanings and FreeSlots; the rules in crate `rules`, whose own
 -- proofs/Claims.antt has what is proved of them alone; what a text spells and where it has its fault likewise in crate
 -- `leaflet`. Assumes nothing.
-use mathlib.Core.Path.{◌≡◌, sym, ap}
-use Prim.Native.Nat.{ℕ, ◌*◌, ◌/◌, ◌<◌}
-use mathlib.Core.Bool.{true, false}
-use mathlib.Core.List.{List, []}
-use mathlib.Core.Logic.{◌↔◌}
-use mathlib.Core.Option.{none}
-use lib.ListN.{length, get_or, take, drop}
+use Rattle.std.proofs.Common.{◌≡◌, sym, ap, ℕ, ◌*◌, ◌/◌, ◌<◌, true, false, List, [], ◌↔◌, None, length, get_or, take}
+use Rattle.std.proofs.Common.{drop}
 -- words of the rules and of leaflets
 use Rattle.rules.specs.Layout.{line_length, lines_at}
 use Rattle.rules.specs.Basics.{Run}
@@ -135,7 +130,7 @@ module _ (u : EditRun) where
       Choice us (breaking m x (runs us)) × Fits m x (breaking m x (runs us)) × Longest m x (breaking m x (runs us))
   edit_lines h = lines_chosen m x us (run_found_0 u h)
 
-  -- request 03: the lines that the rules give the slot's records, before and after; and that an edit which found the
+  -- the lines that the rules give the slot's records, before and after; and that an edit which found the
   -- places and lines w and left v keeps all lines before f, and all from r on but for their numbers, and reports the
   -- number of those between
   abbrev old : List Line
@@ -219,7 +214,7 @@ module _ (r : CallRun) (c : Clinic) (k : SlotNumber) (e : call r ≡ call_on c k
   pub read_hands_none : (number_of (reply r) ≡ 0 → ⊥) → reply r ≡ read_reply (number_of (reply r)) []
   read_hands_none h = read_nothing r c k e h
 
--- Request 05: what an import does -----------------------------------------------------------------------------------
+-- What an import does -----------------------------------------------------------------------------------------------
 
 module _ (u : ImportRun) where
   -- 17 is given exactly where the text has a fault, and names its place: whatever the sheet, the caller, the slot and
@@ -250,7 +245,7 @@ module _ (u : ImportRun) where
         records_of (import_after u) ≡ imported_records (size u) (reading ps)
     import_records h = import_leaves u ps s h
 
--- Request 07: what a take, a giving back and answer 14 are ----------------------------------------------------------
+-- What a take, a giving back and answer 14 are ----------------------------------------------------------------------
 
 module _ (u : TakeRun) where
   -- the sheet that the take found
@@ -297,11 +292,11 @@ module _ (u : GiveBackRun) where
 module _ (r : CallRun) (c : Clinic) (k : SlotNumber) (q : SlotCall) (e : call r ≡ call_on c k q) where
   -- 14, of every call on a slot: exactly where none of 17, 1, 2 and 3 is due and the in-use word is 0
   pub answer_14_exactly : (number_of (reply r) ≡ 14)
-      ↔ ((fault_of q ≡ none) × Reached (before r) c.0 k.0 × (in_use_of (slot_at (before r) k.0) ≡ 0))
+      ↔ ((fault_of q ≡ None) × Reached (before r) c.0 k.0 × (in_use_of (slot_at (before r) k.0) ≡ 0))
   answer_14_exactly = run_14 r c k q e
 
   -- an in-use word above 1 is 4
-  pub in_use_above_1 : fault_of q ≡ none → Reached (before r) c.0 k.0 → 1 < in_use_of (slot_at (before r) k.0) →
+  pub in_use_above_1 : fault_of q ≡ None → Reached (before r) c.0 k.0 → 1 < in_use_of (slot_at (before r) k.0) →
       number_of (reply r) ≡ 4
   in_use_above_1 f h w = run_misused r c k q e f h w
 
@@ -312,13 +307,13 @@ module _ (r : CallRun) (c : Clinic) (k : SlotNumber) (q : SlotCall) (e : call r 
 pub demand_3 : (ws : List ℕ) (rs : List CallRun) → Begun rs → Chained ws rs → AsBooked ws rs
 demand_3 ws rs b c = as_booked ws rs b c
 
--- after it each slot holds what the rules give its records, so that request 03's `edit_words_stable` holds of every
+-- after it each slot holds what the rules give its records, so that `edit_words_stable` holds of every
 -- accepted edit that follows
 pub sequence_as_ruled : (ws : List ℕ) (rs : List CallRun) → Begun rs → Chained ws rs → (k : ℕ) → k < slot_count ws →
     AsRuled (slot_at (final ws rs) k)
 sequence_as_ruled ws rs b c k h = slots_as_ruled ws rs b c k h
 
--- and each of these stands in the list of its class (request 04)
+-- and each of these stands in the list of its class
 pub sequence_listed : (ws : List ℕ) (rs : List CallRun) → Begun rs → Chained ws rs → (k : ℕ) → k < slot_count ws →
     All Listed (records_of (slot_at (final ws rs) k))
 sequence_listed ws rs b c k h = slots_listed ws rs b c k h

@@ -1,14 +1,8 @@
 -- When an edit answers 12, 10 and 0: exactly where no earlier answer is due, 12 by whether each record is listed, and
 -- 10 or 0 by whether a breaking exists.
 -- Assumes nothing.
-use mathlib.Core.Path.{◌≡◌, refl, sym, ap, ◌∙◌}
-use Prim.Native.Nat.{ℕ}
-use native.Mathlib.Omega.{arith}
-use mathlib.Core.Bool.{true, false}
-use mathlib.Core.List.{List, [], ◌∷◌}
-use mathlib.Core.Logic.{◌↔◌}
-use mathlib.Core.Option.{Option, none, some}
-use lib.ListN.{length}
+use Rattle.std.proofs.Common.{◌≡◌, refl, sym, ap, ◌∙◌, ℕ, arith, true, false, List, [], ◌∷◌, ◌↔◌, Option, None, Some}
+use Rattle.std.proofs.Common.{length}
 use Rattle.rules.specs.Basics.{is_in, first_of, Run}
 use Rattle.rules.specs.Records.{Rec}
 use Rattle.rules.specs.Listed.{not_listed}
@@ -20,7 +14,7 @@ use Rattle.rules.specs.Refusals.{Answer, says, EditAnswer, as_edit, Outcome, or_
 use Rattle.rules.specs.Refusals.{edit_slot, entry_rows, entry_answer, on_slot}
 use Rattle.rules.specs.Meanings.{All, Choice, Fits, FirstWide, FirstLacking, Listed}
 use Rattle.rules.proofs.Claims.{no_12_exactly, answer_12_exactly, no_10_exactly, answer_10}
-use Rattle.rules.proofs.Decisions.{some_none}
+use Rattle.std.proofs.lemmas.Option.{none-some}
 use Rattle.rules.proofs.Judged.{judged_passes, judged_0, judged_12, judged_10}
 use Rattle.sheet.specs.Meanings.{NoneBefore12, NoEarlier}
 use Rattle.sheet.proofs.Tables.{same_number, lacking, passed, under_table}
@@ -50,7 +44,7 @@ module _ (ws : List ℕ) (caller k place deleted : ℕ) (inserted : List ℕ) wh
   abbrev out : Outcome EditAnswer
   out = on_slot as_edit ws caller k here
 
-  pub found_0 : out.0.number ≡ 0 → no_breaking m x us ≡ none
+  pub found_0 : out.0.number ≡ 0 → no_breaking m x us ≡ None
   unfolding entry_rows slot_rows edit_slot
   found_0 z =
       let f = from_slot ws caller k place deleted inserted 0 refl z in
@@ -66,7 +60,7 @@ module _ (ws : List ℕ) (caller k place deleted : ℕ) (inserted : List ℕ) wh
       let a : out.0.place ≡ (judged m x new).place
       = ap (λ (b : EditAnswer). b.place) f.answer ∙ ap (λ (b : Answer). b.place) j in
       let e = judged_10 m x _ (same_number (sym j) ∙ f.number) in
-      (answer_10 m x us out.0.place (e ∙ ap some (sym a))).1
+      (answer_10 m x us out.0.place (e ∙ ap Some (sym a))).1
 
   -- 12 names the first record that is not listed
   pub place_12 : out.0.number ≡ 12 → FirstLacking Listed new out.0.place
@@ -77,7 +71,7 @@ module _ (ws : List ℕ) (caller k place deleted : ℕ) (inserted : List ℕ) wh
       let a : out.0.place ≡ (judged m x new).place
       = ap (λ (b : EditAnswer). b.place) f.answer ∙ ap (λ (b : Answer). b.place) j in
       let e = (judged_12 m x new (same_number (sym j) ∙ f.number)).1 in
-      (answer_12_exactly new out.0.place).0 (e ∙ ap some (sym a))
+      (answer_12_exactly new out.0.place).0 (e ∙ ap Some (sym a))
 
   abbrev Reached12 : Type 0
   Reached12 = NoneBefore12 ws caller k place deleted inserted
@@ -104,13 +98,13 @@ module _ (ws : List ℕ) (caller k place deleted : ℕ) (inserted : List ℕ) wh
       ap (λ (o : Outcome EditAnswer). o.0.number) (on_entering as_edit ws caller k here e)
       ∙ same_number (under_table rows _ (passed 0 rows (says 0 0) refl r).0)
 
-  due_12 : Reached12 → (i : ℕ) → not_listed 0 new ≡ some i → out.0.number ≡ 12
+  due_12 : Reached12 → (i : ℕ) → not_listed 0 new ≡ Some i → out.0.number ≡ 12
   unfolding judged
   due_12 h i e = past_7 h.call h.slot ∙ rw (h.records, e)
 
   by_listed : Reached12 → (All Listed new → ⊥) → (o : Option ℕ) → not_listed 0 new ≡ o → out.0.number ≡ 12
-  by_listed h n none e = absurd (n ((no_12_exactly new).0 e))
-  by_listed h n (some i) e = due_12 h i e
+  by_listed h n None e = absurd (n ((no_12_exactly new).0 e))
+  by_listed h n (Some i) e = due_12 h i e
 
   -- 12 is given exactly where no earlier answer is due and some record is not listed
   pub exactly_12 : (out.0.number ≡ 12) ↔ (Reached12 × (All Listed new → ⊥))
@@ -118,7 +112,7 @@ module _ (ws : List ℕ) (caller k place deleted : ℕ) (inserted : List ℕ) wh
     λ z. (
       reached z,
       λ a.
-          some_none (sym ((answer_12_exactly new out.0.place).1 (place_12 z)) ∙ (no_12_exactly new).1 a),
+          none-some _ (sym ((no_12_exactly new).1 a) ∙ (answer_12_exactly new out.0.place).1 (place_12 z)),
     ),
     λ h. by_listed h.0 h.1 (not_listed 0 new) refl,
   )
@@ -155,12 +149,12 @@ module _ (ws : List ℕ) (caller k place deleted : ℕ) (inserted : List ℕ) wh
   by_breaking : (o : Option ℕ) → no_breaking m x us ≡ o →
       out.0.number ≡ (or_else 10 o (says 0 (length (compose m x us)))).number →
       ((out.0.number ≡ 10) ↔ (Breakable → ⊥)) × ((out.0.number ≡ 0) ↔ Breakable)
-  by_breaking none e a =
+  by_breaking None e a =
       let b : Breakable = (no_10_exactly m x us).0 e in (
         (λ t. absurd (omega (arith, t, a)), λ f. absurd (f b)),
         (λ t. b, λ b. a),
       )
-  by_breaking (some i) e a =
+  by_breaking (Some i) e a =
       let f : Breakable → ⊥ = (answer_10 m x us i e).0 in (
         (λ t. f, λ f. a),
         (λ t. absurd (omega (arith, t, a)), λ b. absurd (f b)),

@@ -1,14 +1,8 @@
 -- What an accepted edit does on a sheet of any words and reports, and what a read hands back after it; a refused one
 -- reports nothing. Assumes nothing.
-use mathlib.Core.Path.{◌≡◌, refl, sym, ap, subst, ◌∙◌}
-use Prim.Native.Nat.{ℕ, ◌/◌, ◌≤◌}
-use native.Mathlib.Omega.{arith}
-use mathlib.Core.Bool.{true}
-use mathlib.Core.List.{List}
-use mathlib.Core.Logic.{inl, inr}
-use lib.Dec.{eqb}
-use lib.ListN.{length}
-use borrow.Author.Tests.{eqb-true, eqb-false}
+use Rattle.std.proofs.Common.{◌≡◌, refl, sym, ap, subst, ◌∙◌, ℕ, ◌/◌, ◌≤◌, arith, true, List, inl, inr, eqb, length}
+use Rattle.std.proofs.Common.{eqb-true}
+use borrow.Author.Tests.{eqb-false}
 use Rattle.rules.specs.Layout.{most_records, record_length, slot_length}
 use Rattle.rules.specs.Records.{records}
 use Rattle.rules.specs.Groups.{TextUnit, units}
@@ -20,7 +14,7 @@ use Rattle.rules.specs.Stable.{used_by, used_of, ruled_lines, AsRuled, StableEdi
 use Rattle.rules.specs.Refusals.{says, EditAnswer, as_edit, Outcome, lines_redone, edited, edit_redone, slot_rows}
 use Rattle.rules.specs.Refusals.{edit_slot}
 use Rattle.rules.specs.Refusals.{entry_rows, entry_answer, on_slot, read_number, read_words}
-use Rattle.rules.proofs.Decisions.{tested}
+use Rattle.std.proofs.lemmas.Bool.{cases_Bool}
 use Rattle.rules.proofs.WordCounts.{composed_few}
 use Rattle.rules.proofs.RecordWords.{length_records}
 use Rattle.rules.proofs.RedoneLines.{edit_stable}
@@ -65,7 +59,7 @@ module _ (ws : List ℕ) (caller k place deleted : ℕ) (inserted : List ℕ) wh
   pub from_slot : (n : ℕ) → lacking n (entry_rows ws caller k) ≡ true → out.0.number ≡ n → FromSlot n
   unfolding entry_answer
   from_slot n l z =
-      elim (tested (eqb (entry_answer ws caller k).number 0)) [
+      elim (cases_Bool (eqb (entry_answer ws caller k).number 0)) [
         | inl t ↦
             let e = eqb-true _ _ t in
             let a : out.0 ≡ (here before).0
@@ -133,7 +127,7 @@ module _ (ws : List ℕ) (caller k place deleted : ℕ) (inserted : List ℕ) wh
   -- a refused one reports none
   pub refused_none : (out.0.number ≡ 0 → ⊥) → out.0.redone ≡ 0
   refused_none z =
-      elim (tested (eqb (entry_answer ws caller k).number 0)) [
+      elim (cases_Bool (eqb (entry_answer ws caller k).number 0)) [
         | inl t ↦
             let a : out.0 ≡ (here before).0
             = ap (λ (o : Outcome EditAnswer). o.0) (on_entering as_edit ws caller k here (eqb-true _ _ t)) in

@@ -1,11 +1,6 @@
 -- Laws of each run of an edit, from those of the definitions: what it does to its slot, when it answers 0, 12 and 10,
 -- and what a read then hands back. Assumes nothing.
-use mathlib.Core.Path.{◌≡◌, sym, ap, subst, ◌∙◌}
-use Prim.Native.Nat.{ℕ, ◌/◌}
-use mathlib.Core.List.{List}
-use mathlib.Core.Logic.{◌↔◌}
-use mathlib.Core.Option.{none}
-use lib.ListN.{length}
+use Rattle.std.proofs.Common.{◌≡◌, sym, ap, subst, ◌∙◌, ℕ, ◌/◌, List, ◌↔◌, None, length}
 use Rattle.rules.specs.Basics.{Run}
 use Rattle.rules.specs.Layout.{record_length}
 use Rattle.rules.specs.Records.{Rec, records}
@@ -54,10 +49,10 @@ module _ (u : EditRun) where
       Spliced (slot_before u) (slot_at o.1 (slot u).0) o.0 (place u) (deleted u) (inserted u))
       (accepted_edit ws (caller u).0 (slot u).0 (place u) (deleted u) (inserted u))
 
-  pub run_found_0 : (answer u).number ≡ 0 → no_breaking m x us ≡ none
+  pub run_found_0 : (answer u).number ≡ 0 → no_breaking m x us ≡ None
   unfolding edit
   run_found_0 =
-      by_contract (λ o. o.0.number ≡ 0 → no_breaking m x us ≡ none)
+      by_contract (λ o. o.0.number ≡ 0 → no_breaking m x us ≡ None)
       (found_0 ws (caller u).0 (slot u).0 (place u) (deleted u) (inserted u))
 
   abbrev pub Breakable : Type 0

@@ -1,26 +1,24 @@
 -- Laws of the rows 1 to 3 and 14, with which each call on a slot begins, and of the words of a slot in its sheet.
 -- Assumes nothing.
-use mathlib.Core.Path.{◌≡◌, refl, sym, ap, ◌∙◌}
-use Prim.Native.Nat.{ℕ, zero, suc, ◌+◌, ◌-◌, ◌*◌, ◌≤◌, ◌<◌}
-use native.Mathlib.Nat.{add-zero}
-use native.Mathlib.Omega.{arith}
-use mathlib.Core.Bool.{Bool, true, false, not, ◌||◌}
-use mathlib.Core.List.{List, [], ◌∷◌}
-use lib.Dec.{leb, eqb}
-use lib.ListN.{length, get_or, take, drop}
-use lib.Seq.{get_or-take, get_or-drop, take-take, drop-drop}
+use Rattle.std.proofs.Common.{◌≡◌, refl, sym, ap, ◌∙◌, ℕ, zero, suc, ◌+◌, ◌-◌, ◌*◌, ◌≤◌, ◌<◌, add-zero, arith, Bool}
+use Rattle.std.proofs.Common.{true, false, not, ◌||◌, List, [], ◌∷◌, leb, eqb, length, get_or, take, drop}
+use Rattle.std.proofs.Common.{get_or-take, get_or-drop, take-take, drop-drop, leb-false, le-leb, eqb-true, eq-eqb}
+use Rattle.std.proofs.Common.{ne_eqb}
+use Rattle.std.proofs.Math.Bool.{or-true}
+use borrow.Author.Tests.{lt-leb, eqb-false, not-false}
 use borrow.Rule.Slice.PartMut.{put_mid}
-use borrow.Author.Tests.{leb-false, le-leb, lt-leb}
-use borrow.Author.Tests.{eqb-true, eqb-false, eq-eqb, ne_eqb, not-false}
 use Rattle.rules.specs.Basics.{first_of}
 use Rattle.rules.specs.Layout.{slot_length, in_use_at}
 use Rattle.rules.specs.Sheet.{clinic_of, in_use_of, slot_count, length_ok, slot_at, with_slot}
-use Rattle.rules.specs.Refusals.{Answer, says, EditAnswer, edit_says, as_edit, Outcome, entry_rows, entry_answer}
+use Rattle.rules.specs.Refusals.{Answer, says, Outcome, entry_rows, entry_answer}
 use Rattle.rules.specs.Refusals.{on_slot}
+use Rattle.rules.specs.Numbers.{refused_with}
+use Rattle.rules.specs.declared.refusal.Refusal.{Refusal}
+use Rattle.slot.proofs.RefusalNumbers.{number_not_0}
 use Rattle.sheet.proofs.Tables.{passed, same_number}
 use Rattle.sheet.proofs.Lengths.{or_left, or_right, Whole, whole}
 
--- an answer 0, as the program makes it
+-- an answer 0, as a call tells it
 pub entry_zero : (ws : List ℕ) (caller k : ℕ) {n p : ℕ} → says n p ≡ entry_answer ws caller k → n ≡ 0 →
     (entry_answer ws caller k).number ≡ 0
 entry_zero ws caller k e z = same_number (sym e) ∙ z
@@ -110,6 +108,39 @@ module _ (ws : List ℕ) (caller k : ℕ) where
         used = eqb-false _ _ p.1.1.1.0;
       }
 
+-- The rows as a program tests them -----------------------------------------------------------------------------------
+
+module _ (ws : List ℕ) (caller k : ℕ) where
+  within_slots : length_ok (length ws) ≡ true → slot_length * k < length ws → k < slot_count ws
+  within_slots p h = omega (arith, (whole (length ws) p).exact)
+
+  pub row_1 : length_ok (length ws) ≡ false → says 1 0 ≡ entry_answer ws caller k
+  row_1 p = sym (entry_1 ws caller k p)
+
+  module _ (p : length_ok (length ws) ≡ true) where
+    pub row_2 : length ws ≤ slot_length * k → says 2 0 ≡ entry_answer ws caller k
+    row_2 h = sym (entry_2 ws caller k p (omega (arith, (whole (length ws) p).exact)))
+
+    module _ (h : slot_length * k < length ws) where
+      pub row_3_unassigned : caller ≡ 0 → says 3 0 ≡ entry_answer ws caller k
+      row_3_unassigned z = sym (entry_3 ws caller k p (within_slots p h) (rw (eq-eqb caller 0 z)))
+
+      pub row_3_foreign : (caller ≡ get_or ws (slot_length * k) 0 → ⊥) → says 3 0 ≡ entry_answer ws caller k
+      row_3_foreign d =
+          sym (entry_3 ws caller k p (within_slots p h) (rw (clinic_at ws k, ne_eqb caller _ d, or-true)))
+
+      module _ (known : caller ≡ 0 → ⊥) (own : caller ≡ get_or ws (slot_length * k) 0) where
+        own_slot : foreign ws caller k ≡ false
+        own_slot = rw (clinic_at ws k, ne_eqb caller 0 known, eq-eqb caller _ own)
+
+        pub row_14 : get_or ws (slot_length * k + in_use_at) 0 ≡ 0 → says 14 0 ≡ entry_answer ws caller k
+        row_14 z = sym (entry_14 ws caller k p (within_slots p h) own_slot (in_use_word ws k ∙ z))
+
+        pub row_0 : (get_or ws (slot_length * k + in_use_at) 0 ≡ 0 → ⊥) → says 0 0 ≡ entry_answer ws caller k
+        row_0 d = sym (entry_0 ws caller k p (within_slots p h) own_slot (λ z. d (sym (in_use_word ws k) ∙ z)))
+
+pub ruleset entry_tests = (row_1, row_2, row_3_unassigned, row_3_foreign, row_14, row_0)
+
 -- A call on a slot, as a program makes it ---------------------------------------------------------------------------
 
 module _ {A : Type 0} (refused : Answer → A) (ws : List ℕ) (caller k : ℕ) (f : List ℕ → Outcome A) where
@@ -132,9 +163,17 @@ module _ {A : Type 0} (refused : Answer → A) (ws : List ℕ) (caller k : ℕ) 
       let n : slot_length * k + slot_length - slot_length * k ≡ slot_length = omega arith in
       rw (n, eq-eqb _ _ z) (ap (λ (o : Outcome A). (o.0, with_slot ws k o.1)) (rw n at h))
 
--- an edit's or import's refusal by these rows, as the program makes it
-pub edit_refused : (ws : List ℕ) (caller k : ℕ) (f : List ℕ → Outcome EditAnswer) (a : Answer)
-    {number place redone : ℕ} → a ≡ entry_answer ws caller k → (a.number ≡ 0 → ⊥) →
-    (number ≡ a.number) × (place ≡ a.place) × (redone ≡ 0) →
-    ◌≡◌ {A = Outcome EditAnswer} (edit_says number place redone, ws) (on_slot as_edit ws caller k f)
-edit_refused ws caller k f a e z r = rw (r.0, r.1, r.2) (on_refused as_edit ws caller k f a e z)
+-- a refusal by these rows, as a program has it
+pub on_refusal : {A : Type 0} (tell : Answer → A) (ws : List ℕ) (caller k : ℕ) (f : List ℕ → Outcome A)
+    (e : Refusal) → refused_with e ≡ entry_answer ws caller k →
+    ◌≡◌ {A = Outcome A} (tell (refused_with e), ws) (on_slot tell ws caller k f)
+on_refusal tell ws caller k f e h = on_refused tell ws caller k f (refused_with e) h (number_not_0 e)
+
+-- what is done on the part of the sheet that is slot k, where none of these rows applies
+pub on_range : {A : Type 0} (refused : Answer → A) (ws : List ℕ) (caller k : ℕ) (f : List ℕ → Outcome A)
+    (start end : ℕ) (a : A) (last : List ℕ) → says 0 0 ≡ entry_answer ws caller k → start ≡ slot_length * k →
+    end ≡ slot_length * k + slot_length →
+    ◌≡◌ {A = Outcome A} (a, last) (f (take (end - start) (drop start ws))) →
+    ◌≡◌ {A = Outcome A} (a, put_mid start (end - start) ws last) (on_slot refused ws caller k f)
+on_range refused ws caller k f start end a last z s e h =
+    rw (s, e) (on_passed refused ws caller k f a last (same_number (sym z)) (rw (s, e) at h))

@@ -1,17 +1,12 @@
 -- Laws of a giving back: its number beside an edit's, its place, and what it leaves. Assumes nothing.
-use mathlib.Core.Path.{◌≡◌, refl, sym, ap, ◌∙◌}
-use Prim.Native.Nat.{ℕ}
-use mathlib.Core.Bool.{Bool, true, false, not}
-use mathlib.Core.List.{List}
-use mathlib.Core.Logic.{inl, inr}
-use lib.Dec.{leb, eqb}
-use lib.ListN.{length}
-use borrow.Author.Tests.{eqb-true, eqb-false, eq-eqb, ne_eqb}
+use Rattle.std.proofs.Common.{◌≡◌, refl, sym, ap, ◌∙◌, ℕ, Bool, true, false, not, List, inl, inr, leb, eqb, length}
+use Rattle.std.proofs.Common.{eqb-true, eq-eqb, ne_eqb}
+use borrow.Author.Tests.{eqb-false}
 use Rattle.rules.specs.Sheet.{in_use_of, slot_count, length_ok, slot_at}
 use Rattle.rules.specs.Refusals.{Answer, EditAnswer, as_edit, Outcome, sound, slot_rows, edit_slot, edit}
 use Rattle.rules.specs.Refusals.{entry_rows, entry_answer}
 use Rattle.rules.specs.Pool.{emptied, give_back_rows, give_back_slot, giving_back}
-use Rattle.rules.proofs.Decisions.{tested}
+use Rattle.std.proofs.lemmas.Bool.{cases_Bool}
 use Rattle.sheet.specs.Book.{gives_back}
 use Rattle.sheet.specs.FreeSlots.{up_to_4}
 use Rattle.sheet.proofs.EntryLaws.{four, foreign}
@@ -64,7 +59,7 @@ module _ (s : List ℕ) (place deleted : ℕ) (inserted : List ℕ) where
   slot_as_edit : (give_back_slot s).0.number ≡ up_to_4 number
   unfolding give_back_slot give_back_rows
   slot_as_edit =
-      elim (tested (sound s)) [
+      elim (cases_Bool (sound s)) [
         | inl e ↦ rw e (sym (late e))
         | inr e ↦ given_4 e ∙ ap up_to_4 (sym (slot_unsound s place deleted inserted e))
       ]
@@ -77,7 +72,7 @@ module _ (ws : List ℕ) (caller k place deleted : ℕ) (inserted : List ℕ) wh
   pub number_as_edit : (giving_back ws caller k).0.number ≡ up_to_4 (edit ws caller k place deleted inserted).0.number
   unfolding giving_back edit
   number_as_edit =
-      elim (tested (eqb (entry_answer ws caller k).number 0)) [
+      elim (cases_Bool (eqb (entry_answer ws caller k).number 0)) [
         | inl e ↦
             let z = eqb-true _ _ e in
             ap (λ (o : Outcome Answer). o.0.number) (on_entering (λ a. a) ws caller k give_back_slot z)
@@ -95,7 +90,7 @@ module _ (ws : List ℕ) (caller k place deleted : ℕ) (inserted : List ℕ) wh
 module _ (ws : List ℕ) (caller k : ℕ) where
   given_place : (s : List ℕ) → (give_back_slot s).0.place ≡ 0
   unfolding give_back_slot give_back_rows
-  given_place s = elim (tested (sound s)) [ inl e ↦ rw e | inr e ↦ rw e ]
+  given_place s = elim (cases_Bool (sound s)) [ inl e ↦ rw e | inr e ↦ rw e ]
 
   pub give_place : (giving_back ws caller k).0.place ≡ 0
   unfolding giving_back

@@ -1,18 +1,13 @@
 -- Laws of an import by its definition: when it answers 17, that it is its edit where it does not, and what records it
 -- leaves. Assumes nothing.
-use mathlib.Core.Path.{◌≡◌, refl, sym, ap, subst, ◌∙◌}
-use Prim.Native.Nat.{ℕ, ◌+◌, ◌/◌}
-use native.Mathlib.Omega.{arith}
-use mathlib.Core.List.{List, append-nil}
-use mathlib.Core.Logic.{◌↔◌}
-use mathlib.Core.Option.{Option, none, some}
-use lib.ListN.{length, drop}
-use lib.Seq.{drop-length}
+use Rattle.std.proofs.Common.{◌≡◌, refl, sym, ap, subst, ◌∙◌, ℕ, ◌+◌, ◌/◌, arith, List, append-nil, ◌↔◌, Option, None}
+use Rattle.std.proofs.Common.{Some, length, drop}
+use Rattle.std.proofs.Math.Seq.{drop-length}
 use Rattle.rules.specs.Layout.{record_length}
 use Rattle.rules.specs.Records.{Rec, records, record_words}
 use Rattle.rules.specs.Sheet.{count_of, records_of, slot_at}
 use Rattle.rules.specs.Refusals.{EditAnswer, as_edit, Outcome, splice, edit}
-use Rattle.rules.proofs.Decisions.{some_none}
+use Rattle.std.proofs.lemmas.Option.{none-some}
 use Rattle.rules.proofs.RecordWords.{length_records}
 use Rattle.rules.proofs.SlotWords.{records_again}
 use Rattle.leaflet.specs.Contents.{Piece, Spells, reading}
@@ -47,12 +42,12 @@ module _ (ws : List ℕ) (caller k size : ℕ) (text : List ℕ) where
       from : (f : Option ℕ) → fault_in text ≡ f →
           let o = unless_fault (λ a. a) f ws (its (words_in size text)) in
           ((o.0.number ≡ 17) × (o.0.place ≡ p)) ↔ Fault text p
-      from none e = (
+      from None e = (
         λ h. absurd (edit_not_17 ws caller k 0 (count_of (slot_at ws k)) (words_in size text) h.0),
-        λ g. absurd (some_none (sym ((fault_some text p).1 g) ∙ e)),
+        λ g. absurd (none-some _ (sym e ∙ (fault_some text p).1 g)),
       )
-      from (some j) e = (
-        λ h. (fault_some text p).0 (e ∙ ap some h.1),
+      from (Some j) e = (
+        λ h. (fault_some text p).0 (e ∙ ap Some h.1),
         λ g. let f = (fault_some text p).1 g in (refl, cc),
       )
 

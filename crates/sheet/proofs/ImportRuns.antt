@@ -1,9 +1,5 @@
 -- Laws of each run of an import, from those of the definition. Assumes nothing.
-use mathlib.Core.Path.{◌≡◌, refl, sym, ap, subst, ◌∙◌}
-use Prim.Native.Nat.{ℕ}
-use mathlib.Core.List.{List}
-use mathlib.Core.Logic.{inl, inr, ◌↔◌}
-use denote.Ref.{Bor}
+use Rattle.std.proofs.Common.{◌≡◌, refl, sym, ap, subst, ◌∙◌, ℕ, List, inl, inr, ◌↔◌, Bor}
 use Rattle.rules.specs.Records.{record_words}
 use Rattle.rules.specs.Sheet.{count_of, records_of, slot_at}
 use Rattle.rules.specs.Refusals.{EditAnswer, Outcome}

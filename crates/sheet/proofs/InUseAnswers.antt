@@ -1,17 +1,11 @@
 -- Laws of answer 14 and of in-use words above 1, whatever the call on a slot. Assumes nothing.
-use mathlib.Core.Path.{◌≡◌, refl, sym, ap, ◌∙◌}
-use Prim.Native.Nat.{ℕ, ◌<◌}
-use native.Mathlib.Omega.{arith}
-use mathlib.Core.Bool.{true, false}
-use mathlib.Core.List.{List}
-use mathlib.Core.Logic.{◌↔◌, inl, inr}
-use mathlib.Core.Option.{Option, none, some}
-use lib.Dec.{leb, eqb}
-use lib.ListN.{length}
-use borrow.Author.Tests.{leb-true, leb-false, eqb-true, eqb-false, eq-eqb, ne_eqb}
+use Rattle.std.proofs.Common.{◌≡◌, refl, sym, ap, ◌∙◌, ℕ, ◌<◌, arith, true, false, List, ◌↔◌, inl, inr, Option, None}
+use Rattle.std.proofs.Common.{Some, leb, eqb, length, leb-true, leb-false, eqb-true, eq-eqb, ne_eqb}
+use borrow.Author.Tests.{eqb-false}
 use Rattle.rules.specs.Sheet.{clinic_of, in_use_of, slot_count, length_ok, slot_at}
 use Rattle.rules.specs.Refusals.{Outcome, entry_answer, on_slot}
-use Rattle.rules.proofs.Decisions.{tested, some_none}
+use Rattle.std.proofs.lemmas.Bool.{cases_Bool}
+use Rattle.std.proofs.lemmas.Option.{none-some}
 use Rattle.sheet.specs.Import.{unless_fault}
 use Rattle.sheet.specs.Book.{SlotCall, Reply, edit_reply, number_of, refusal, fault_of, call_on}
 use Rattle.sheet.specs.OnSheet.{in_slot, step}
@@ -35,10 +29,10 @@ module _ (ws : List ℕ) (caller k : ℕ) where
   -- the row 14 applies exactly where the slot is reached and not in use
   reached_14 : (entry_answer ws caller k).number ≡ 14 → Reached ws caller k × free
   reached_14 n =
-      elim (tested (length_ok (length ws))) [
+      elim (cases_Bool (length_ok (length ws))) [
         | inr p ↦ absurd (omega (arith, n, same_number (entry_1 ws caller k p)))
         | inl p ↦
-            elim (tested (leb (slot_count ws) k)) [
+            elim (cases_Bool (leb (slot_count ws) k)) [
               | inl q ↦ absurd (omega (arith, n, same_number (entry_2 ws caller k p (leb-true _ _ q))))
               | inr q ↦ within p (leb-false _ _ q)
             ]
@@ -46,10 +40,10 @@ module _ (ws : List ℕ) (caller k : ℕ) where
     where
       within : length_ok (length ws) ≡ true → k < slot_count ws → Reached ws caller k × free
       within p q =
-          elim (tested (foreign ws caller k)) [
+          elim (cases_Bool (foreign ws caller k)) [
             | inl r ↦ absurd (omega (arith, n, same_number (entry_3 ws caller k p q r)))
             | inr r ↦
-                elim (tested (eqb (in_use_of (slot_at ws k)) 0)) [
+                elim (cases_Bool (eqb (in_use_of (slot_at ws k)) 0)) [
                   | inl t ↦
                       let o = not_foreign ws caller k r in
                       (record { whole = p; within = q; known = o.0; own = o.1 }, eqb-true _ _ t)
@@ -87,18 +81,18 @@ module _ (ws : List ℕ) (caller k : ℕ) where
 
 -- a fault of the text comes first
 unless_14 : (f : Option ℕ) (ws : List ℕ) (o : Outcome Reply) →
-    (number_of (unless_fault edit_reply f ws o).0 ≡ 14) ↔ ((f ≡ none) × (number_of o.0 ≡ 14))
-unless_14 none ws o = (λ n. (refl, n), λ g. g.1)
-unless_14 (some p) ws o = (λ n. absurd (omega (arith, n)), λ g. absurd (some_none g.0))
+    (number_of (unless_fault edit_reply f ws o).0 ≡ 14) ↔ ((f ≡ None) × (number_of o.0 ≡ 14))
+unless_14 None ws o = (λ n. (refl, n), λ g. g.1)
+unless_14 (Some p) ws o = (λ n. absurd (omega (arith, n)), λ g. absurd (none-some _ (sym g.0)))
 
 module _ (ws : List ℕ) (c : Clinic) (k : SlotNumber) (q : SlotCall) where
   pub step_14 : (number_of (step (call_on c k q) ws).0 ≡ 14)
-      ↔ ((fault_of q ≡ none) × Reached ws c.0 k.0 × (in_use_of (slot_at ws k.0) ≡ 0))
+      ↔ ((fault_of q ≡ None) × Reached ws c.0 k.0 × (in_use_of (slot_at ws k.0) ≡ 0))
   step_14 =
       let f = unless_14 (fault_of q) ws (on_slot (refusal q) ws c.0 k.0 (in_slot q)) in
       let o = on_14 ws c.0 k.0 q in
       (λ n. let g = f.0 n in let r = o.0 g.1 in (g.0, r.0, r.1), λ g. f.1 (g.0, o.1 (g.1, g.2)))
 
-  pub step_misused : fault_of q ≡ none → Reached ws c.0 k.0 → 1 < in_use_of (slot_at ws k.0) →
+  pub step_misused : fault_of q ≡ None → Reached ws c.0 k.0 → 1 < in_use_of (slot_at ws k.0) →
       number_of (step (call_on c k q) ws).0 ≡ 4
   step_misused e r u = rw e (on_misused ws c.0 k.0 q r u)

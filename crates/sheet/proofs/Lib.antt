@@ -1,6 +1,6 @@
 -- Laws of the calls on a sheet and of the book, in groups by what they serve, each file leaning on those above it.
 -- how a call begins: tables of refusals, a sheet's length, the rows 1 to 3 and 14, and a slot in its sheet:
--- `slot_count` and `entry_answer`
+-- `slot_count` and `slot_range`
 pub mod Tables
 pub mod Lengths
 pub mod EntryLaws
@@ -23,13 +23,13 @@ pub mod BookSlots
 pub mod SlotEdits
 pub mod EditChanges
 pub mod EditAnswers
--- an import, request 05: `import`
+-- an import: `import`
 pub mod ImportEdits
 pub mod ImportTexts
 pub mod ImportLaws
 -- each call on a slot, there and in the book: a new call is one clause here
 pub mod SlotCalls
--- slots taken and given back, request 07: `take` and `give_back`
+-- slots taken and given back: `take` and `give_back`
 pub mod TakeLaws
 pub mod TakenSlots
 pub mod GiveBackLaws

@@ -1,14 +1,8 @@
 -- Numbers that tables do not give: records none but 8, 12, 9, 10 and 0; an edit not 17, nor 14 past the rows
 -- before it; set-up's lists and a take not 4.
 -- Assumes nothing.
-use mathlib.Core.Path.{◌≡◌, refl, sym}
-use Prim.Native.Nat.{ℕ, ◌+◌, ◌-◌, ◌/◌, ◌%◌}
-use native.Mathlib.Omega.{arith}
-use mathlib.Core.Bool.{Bool, true, false, not, ◌||◌}
-use mathlib.Core.List.{List, [], ◌∷◌}
-use mathlib.Core.Option.{Option, none, some}
-use lib.Dec.{ltb, eqb}
-use lib.ListN.{length}
+use Rattle.std.proofs.Common.{◌≡◌, refl, sym, ℕ, ◌+◌, ◌-◌, ◌/◌, ◌%◌, arith, Bool, true, false, not, ◌||◌, List, []}
+use Rattle.std.proofs.Common.{◌∷◌, Option, None, Some, ltb, eqb, length}
 use Rattle.rules.specs.Basics.{is_in}
 use Rattle.rules.specs.Layout.{most_records, record_length, slot_length}
 use Rattle.rules.specs.Records.{Rec, bad_record}
@@ -20,7 +14,7 @@ use Rattle.rules.specs.Sheet.{count_of}
 use Rattle.rules.specs.Refusals.{Answer, says, EditAnswer, as_edit, Outcome, or_else, judged, sound, slot_rows}
 use Rattle.rules.specs.Refusals.{edit_slot, entry_rows, entry_answer, edit, bad_slot, set_up_rows, set_up_answer}
 use Rattle.rules.specs.Pool.{OwnSlot, lowest_free, granted, take_rows, take_answer}
-use Rattle.rules.proofs.Decisions.{true_false}
+use Rattle.std.proofs.lemmas.Bool.{true≢false}
 use Rattle.sheet.proofs.Tables.{lacking, passed}
 use Rattle.sheet.proofs.OnSlot.{Done, entering, refusing, on_cases}
 
@@ -28,11 +22,11 @@ use Rattle.sheet.proofs.OnSlot.{Done, entering, refusing, on_cases}
 
 given_not : (p l q r : Option ℕ) (j n : ℕ) → is_in n (8 ∷ 12 ∷ 9 ∷ 10 ∷ 0 ∷ []) ≡ false →
     (or_else 8 p (or_else 12 l (or_else 9 q (or_else 10 r (says 0 j))))).number ≡ n → ⊥
-given_not none none none none j n h e = true_false (rw (sym e) at h)
-given_not none none none (some i) j n h e = true_false (rw (sym e) at h)
-given_not none none (some i) r j n h e = true_false (rw (sym e) at h)
-given_not none (some i) q r j n h e = true_false (rw (sym e) at h)
-given_not (some i) l q r j n h e = true_false (rw (sym e) at h)
+given_not None None None None j n h e = true≢false (rw (sym e) at h)
+given_not None None None (Some i) j n h e = true≢false (rw (sym e) at h)
+given_not None None (Some i) r j n h e = true≢false (rw (sym e) at h)
+given_not None (Some i) q r j n h e = true≢false (rw (sym e) at h)
+given_not (Some i) l q r j n h e = true≢false (rw (sym e) at h)
 
 pub judged_not : (n : ℕ) → is_in n (8 ∷ 12 ∷ 9 ∷ 10 ∷ 0 ∷ []) ≡ false → (m x : ℕ) (rs : List Rec) →
     (judged m x rs).number ≡ n → ⊥
@@ -84,8 +78,8 @@ edit_not_17 ws caller k place deleted inserted = from (on_cases as_edit ws calle
 
 else_not_4 : (n : ℕ) (o : Option ℕ) (a : Answer) → (n ≡ 4 → ⊥) → (a.number ≡ 4 → ⊥) →
     (or_else n o a).number ≡ 4 → ⊥
-else_not_4 n none a p q = q
-else_not_4 n (some i) a p q = p
+else_not_4 n None a p q = q
+else_not_4 n (Some i) a p q = p
 
 pub set_up_not_4 : (n : ℕ) (clinics measures indents : List ℕ) → (set_up_answer n clinics measures indents).number ≡ 4 →
     ⊥
@@ -98,8 +92,8 @@ set_up_not_4 n clinics measures indents e =
 -- Takes -------------------------------------------------------------------------------------------------------------
 
 granted_not_4 : (o : Option ℕ) → (granted o).number ≡ 4 → ⊥
-granted_not_4 none e = omega (arith, e)
-granted_not_4 (some k) e = omega (arith, e)
+granted_not_4 None e = omega (arith, e)
+granted_not_4 (Some k) e = omega (arith, e)
 
 pub take_not_4 : (n caller : ℕ) (own : List OwnSlot) → (take_answer n caller own).number ≡ 4 → ⊥
 unfolding take_rows take_answer

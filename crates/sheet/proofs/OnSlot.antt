@@ -1,18 +1,12 @@
 -- Laws of a call on one slot of a sheet, whatever it does there: the words that it leaves alone, that the sheet keeps
 -- its length, and that a refused call changes nothing. Every call on a slot is one of these. Assumes nothing.
-use mathlib.Core.Path.{◌≡◌, refl, ap, ◌∙◌}
-use Prim.Native.Nat.{ℕ, ◌+◌, ◌*◌, ◌≤◌}
-use native.Mathlib.Omega.{arith}
-use mathlib.Core.Bool.{cond}
-use mathlib.Core.List.{List}
-use mathlib.Core.Logic.{inl, inr}
-use lib.Dec.{eqb}
-use lib.ListN.{length, get_or}
-use borrow.Author.Tests.{eqb-true, eqb-false, eq-eqb, ne_eqb}
+use Rattle.std.proofs.Common.{◌≡◌, refl, ap, ◌∙◌, ℕ, ◌+◌, ◌*◌, ◌≤◌, arith, cond, List, inl, inr, eqb, length, get_or}
+use Rattle.std.proofs.Common.{eqb-true, eq-eqb, ne_eqb}
+use borrow.Author.Tests.{eqb-false}
 use Rattle.rules.specs.Layout.{slot_length}
 use Rattle.rules.specs.Sheet.{slot_at, with_slot}
 use Rattle.rules.specs.Refusals.{Answer, Outcome, entry_answer, on_slot}
-use Rattle.rules.proofs.Decisions.{tested}
+use Rattle.std.proofs.lemmas.Bool.{cases_Bool}
 use Rattle.sheet.specs.Meanings.{Outside}
 use Rattle.sheet.proofs.EntryLaws.{entry_passed}
 use Rattle.sheet.proofs.SlotInSheet.{length_with, slot_with, word_with, length_at, put_back}
@@ -48,7 +42,7 @@ module _ {A : Type 0} (refused : Answer → A) (ws : List ℕ) (caller k : ℕ) 
   pub on_cases : Done out
   unfolding on_slot
   on_cases =
-      elim (tested (eqb (entry_answer ws caller k).number 0)) [
+      elim (cases_Bool (eqb (entry_answer ws caller k).number 0)) [
         | inl e ↦ rw e (entering (eqb-true _ _ e))
         | inr e ↦ rw e (refusing (eqb-false _ _ e))
       ]
@@ -110,7 +104,7 @@ pub on_reply : {A B : Type 0} (tell : A → B) (refused : Answer → A) (ws : Li
     (on_slot (λ a. tell (refused a)) ws caller k (λ s. (tell (f s).0, (f s).1)))
 unfolding on_slot
 on_reply tell refused ws caller k f =
-    elim (tested (eqb (entry_answer ws caller k).number 0)) [
+    elim (cases_Bool (eqb (entry_answer ws caller k).number 0)) [
       | inl e ↦ rw e
       | inr e ↦ rw e
     ]

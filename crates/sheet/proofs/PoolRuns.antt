@@ -1,16 +1,10 @@
 -- Laws of each run of a take and of a giving back, from those of the definitions. Assumes nothing.
-use mathlib.Core.Path.{◌≡◌, refl, sym, subst, ◌∙◌}
-use Prim.Native.Nat.{ℕ}
-use native.Mathlib.Omega.{arith}
-use mathlib.Core.Bool.{true, false}
-use mathlib.Core.List.{List}
-use mathlib.Core.Logic.{◌↔◌, inl, inr}
-use lib.ListN.{length, length-set}
-use lib.Seq.{get_or-set_same, get_or-set_other}
+use Rattle.std.proofs.Common.{◌≡◌, refl, sym, subst, ◌∙◌, ℕ, arith, true, false, List, ◌↔◌, inl, inr, length}
+use Rattle.std.proofs.Common.{length-set, get_or-set_same, get_or-set_other}
 use Rattle.rules.specs.Sheet.{length_ok, slot_at}
 use Rattle.rules.specs.Refusals.{Answer, EditAnswer, Outcome, edit}
 use Rattle.rules.specs.Pool.{use_at, taking, emptied, giving_back}
-use Rattle.rules.proofs.Decisions.{ordered, true_false}
+use Rattle.std.proofs.lemmas.Bool.{cases_lt, true≢false}
 use Rattle.sheet.specs.FreeSlots.{Free, LowestFree, Takeable, OnlyTaken, up_to_4}
 use Rattle.sheet.proofs.Lengths.{whole}
 use Rattle.sheet.proofs.EntryLaws.{in_use_word}
@@ -25,20 +19,20 @@ use Rattle.sheet.proofs.Runs.{given_before, given_after, Beside}
 module _ (ws : List ℕ) (caller : ℕ) where
   exactly_1 : {o : Outcome Answer} → Took ws caller o → (o.0.number ≡ 1) ↔ (length_ok (length ws) ≡ false)
   exactly_1 (took_1 e) = (λ z. e, λ f. refl)
-  exactly_1 (took_3 e f) = (λ z. absurd (omega (arith, z)), λ g. absurd (true_false (sym e ∙ g)))
-  exactly_1 (took_13 t f) = (λ z. absurd (omega (arith, z)), λ g. absurd (true_false (sym t.whole ∙ g)))
-  exactly_1 (took_0 t k l) = (λ z. absurd (omega (arith, z)), λ g. absurd (true_false (sym t.whole ∙ g)))
+  exactly_1 (took_3 e f) = (λ z. absurd (omega (arith, z)), λ g. absurd (true≢false (sym e ∙ g)))
+  exactly_1 (took_13 t f) = (λ z. absurd (omega (arith, z)), λ g. absurd (true≢false (sym t.whole ∙ g)))
+  exactly_1 (took_0 t k l) = (λ z. absurd (omega (arith, z)), λ g. absurd (true≢false (sym t.whole ∙ g)))
 
   exactly_3 : {o : Outcome Answer} → Took ws caller o →
       (o.0.number ≡ 3) ↔ ((length_ok (length ws) ≡ true) × (caller ≡ 0))
-  exactly_3 (took_1 e) = (λ z. absurd (omega (arith, z)), λ g. absurd (true_false (sym g.0 ∙ e)))
+  exactly_3 (took_1 e) = (λ z. absurd (omega (arith, z)), λ g. absurd (true≢false (sym g.0 ∙ e)))
   exactly_3 (took_3 e f) = (λ z. (e, f), λ g. refl)
   exactly_3 (took_13 t f) = (λ z. absurd (omega (arith, z)), λ g. absurd (t.known g.1))
   exactly_3 (took_0 t k l) = (λ z. absurd (omega (arith, z)), λ g. absurd (t.known g.1))
 
   exactly_13 : {o : Outcome Answer} → Took ws caller o →
       (o.0.number ≡ 13) ↔ (Takeable ws caller × ((k : ℕ) → Free ws caller k → ⊥))
-  exactly_13 (took_1 e) = (λ z. absurd (omega (arith, z)), λ g. absurd (true_false (sym g.0.whole ∙ e)))
+  exactly_13 (took_1 e) = (λ z. absurd (omega (arith, z)), λ g. absurd (true≢false (sym g.0.whole ∙ e)))
   exactly_13 (took_3 e f) = (λ z. absurd (omega (arith, z)), λ g. absurd (g.0.known f))
   exactly_13 (took_13 t f) = (λ z. (t, f), λ g. refl)
   exactly_13 (took_0 t k l) = (λ z. absurd (omega (arith, z)), λ g. absurd (g.1 k l.free))
@@ -46,16 +40,16 @@ module _ (ws : List ℕ) (caller : ℕ) where
   -- two lowest ones are the same
   one_lowest : (j k : ℕ) → LowestFree ws caller j → LowestFree ws caller k → j ≡ k
   one_lowest j k l m =
-      elim (ordered j k) [
+      elim (cases_lt j k) [
         | inl h ↦ absurd (m.lowest j h l.free)
         | inr h ↦
-            elim (ordered k j) [ inl g ↦ absurd (l.lowest k g m.free) | inr g ↦ omega arith ]
+            elim (cases_lt k j) [ inl g ↦ absurd (l.lowest k g m.free) | inr g ↦ omega arith ]
       ]
 
   exactly_0 : {o : Outcome Answer} → Took ws caller o → (k : ℕ) →
       ((o.0.number ≡ 0) × (o.0.place ≡ k)) ↔ (Takeable ws caller × LowestFree ws caller k)
   exactly_0 (took_1 e) k =
-      (λ z. absurd (omega (arith, z.0)), λ g. absurd (true_false (sym g.0.whole ∙ e)))
+      (λ z. absurd (omega (arith, z.0)), λ g. absurd (true≢false (sym g.0.whole ∙ e)))
   exactly_0 (took_3 e f) k = (λ z. absurd (omega (arith, z.0)), λ g. absurd (g.0.known f))
   exactly_0 (took_13 t f) k = (λ z. absurd (omega (arith, z.0)), λ g. absurd (f k g.1.free))
   exactly_0 (took_0 t j l) k = (λ z. (t, subst (LowestFree ws caller) z.1 l), λ g. (refl, one_lowest j k l g.1))

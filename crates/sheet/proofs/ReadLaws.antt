@@ -1,21 +1,21 @@
 -- Laws of a read: its number, and the words that it hands back. Assumes nothing.
-use mathlib.Core.Path.{◌≡◌, refl, sym, ◌∙◌}
-use Prim.Native.Nat.{ℕ, ◌+◌, ◌-◌, ◌*◌, ◌≤◌, ◌<◌}
-use native.Mathlib.Omega.{arith}
-use mathlib.Core.Bool.{Bool, true, false, cond, ◌||◌, or-true}
-use mathlib.Core.List.{List, []}
-use mathlib.Core.Logic.{inl, inr}
-use lib.Dec.{ltb, eqb}
-use lib.ListN.{length, get_or, take, drop, length-drop}
-use lib.Seq.{length-take-le}
-use borrow.Author.Tests.{ltb-false, lt-ltb, le-ltb}
-use borrow.Author.Tests.{eqb-true, eqb-false, eq-eqb, ne_eqb}
+use Rattle.std.proofs.Common.{◌≡◌, refl, sym, ◌∙◌, ℕ, ◌+◌, ◌-◌, ◌*◌, ◌≤◌, ◌<◌, arith, Bool, true, false, cond, ◌||◌}
+use Rattle.std.proofs.Common.{List, [], inl, inr, ltb, eqb, length, get_or, take, drop, length-drop, length-take-le}
+use Rattle.std.proofs.Common.{ltb-false, lt-ltb, le-ltb, eqb-true, eq-eqb, ne_eqb, Result, Ok, Err, IfOk}
+use Rattle.std.proofs.Math.Bool.{or-true}
+use borrow.Author.Tests.{eqb-false}
 use Rattle.rules.specs.Basics.{first_of}
 use Rattle.rules.specs.Layout.{most_records, line_length, slot_length, line_count_at, in_use_at, lines_at}
 use Rattle.rules.specs.Sheet.{line_count_of, in_use_of, slot_at}
 use Rattle.rules.specs.Refusals.{says, entry_rows, entry_answer}
 use Rattle.rules.specs.Refusals.{read_rows, read_number, read_start, read_length, read_part, read_words}
-use Rattle.rules.proofs.Decisions.{tested}
+use Rattle.std.proofs.lemmas.Bool.{cases_Bool}
+use Rattle.std.specs.Result.{result_unwrap_or}
+use Rattle.std.specs.declared.ops.Range.{Range}
+use Rattle.rules.specs.Numbers.{number_of, refused_with}
+use Rattle.sheet.specs.Told.{number_from}
+use Rattle.rules.specs.declared.refusal.Refusal.{Refusal}
+use Rattle.slot.proofs.RefusalNumbers.{number_not_0}
 use Rattle.sheet.proofs.Tables.{same_number, then_table}
 use Rattle.sheet.proofs.Lengths.{or_left, or_right}
 use Rattle.sheet.proofs.EntryLaws.{word_at, in_use_word, part_of_slot, EntryPassed, entry_passed}
@@ -59,7 +59,7 @@ module _ (ws : List ℕ) (caller k : ℕ) where
 
   pub number_entry : read_number ws caller k ≡ 0 → (entry_answer ws caller k).number ≡ 0
   number_entry z =
-      elim (tested (eqb (entry_answer ws caller k).number 0)) [
+      elim (cases_Bool (eqb (entry_answer ws caller k).number 0)) [
         | inl t ↦ eqb-true _ _ t
         | inr t ↦ number_refused _ refl (eqb-false _ _ t) ∙ z
       ]
@@ -117,7 +117,7 @@ module _ (ws : List ℕ) (caller k : ℕ) where
 
   pub read_fits : Fits
   read_fits =
-      elim (tested (eqb (read_number ws caller k) 0)) [
+      elim (cases_Bool (eqb (read_number ws caller k) 0)) [
         | inl t ↦
             let z = eqb-true (read_number ws caller k) 0 t in
             let r = readable z in
@@ -169,3 +169,38 @@ module _ (ws : List ℕ) (caller k : ℕ) where
       let n : read_start ws caller k + read_length ws caller k - read_start ws caller k ≡ read_length ws caller k
       = omega arith in
       rw n
+
+-- As a program reads them -------------------------------------------------------------------------------------------
+
+module _ (ws : List ℕ) (caller k : ℕ) where
+  pub refused_entry : (e : Refusal) → refused_with e ≡ entry_answer ws caller k → number_of e ≡ read_number ws caller k
+  refused_entry e h = number_refused ws caller k (number_of e) (same_number h) (number_not_0 e)
+
+  module _ (start : ℕ) (z : says 0 0 ≡ entry_answer ws caller k) (s : start ≡ slot_length * k) where
+    passed_entry : (entry_answer ws caller k).number ≡ 0
+    passed_entry = same_number (sym z)
+
+    pub is_misused : 1 < get_or ws (start + in_use_at) 0 → 4 ≡ read_number ws caller k
+    is_misused h = sym (number_misused ws caller k passed_entry (rw s at h))
+
+    pub is_over : most_records < get_or ws (start + line_count_at) 0 → 4 ≡ read_number ws caller k
+    is_over h = sym (number_over ws caller k passed_entry (rw s at h))
+
+    module _ (u : get_or ws (start + in_use_at) 0 ≤ 1) (h : get_or ws (start + line_count_at) 0 ≤ most_records) where
+      pub is_read : 0 ≡ read_number ws caller k
+      is_read = sym (number_under ws caller k passed_entry (rw s at h) (rw s at u))
+
+      pub part_read :
+          ◌≡◌ {A = ℕ × ℕ} (start + lines_at, start + lines_at + line_length * get_or ws (start + line_count_at) 0)
+          (read_part ws caller k)
+      part_read = let o = read_opened ws caller k (sym is_read) in rw (o.0, o.1, s)
+
+  -- 0..0 where it is refused
+  pub part_or_none : (r : Result (Range ℕ) Refusal) → number_from r ≡ read_number ws caller k →
+      IfOk r (λ p. ◌≡◌ {A = ℕ × ℕ} (p.start, p.end) (read_part ws caller k)) →
+      let p = result_unwrap_or r (record { start = 0; end = 0 }) in
+      ◌≡◌ {A = ℕ × ℕ} (p.start, p.end) (read_part ws caller k)
+  part_or_none (Ok p) n h = h
+  part_or_none (Err e) n h = let o = read_refused ws caller k (λ z. number_not_0 e (n ∙ z)) in rw (o.0, o.1)
+
+pub ruleset read_tests = (refused_entry, is_misused, is_over, is_read, part_read)

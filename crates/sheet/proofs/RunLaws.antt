@@ -1,11 +1,7 @@
 -- Laws of each run of a call, from those of the definitions: what it leaves alone, what it goes by, and what reads
 -- hand back. Assumes nothing.
-use mathlib.Core.Path.{◌≡◌, refl, sym, ap, subst, ◌∙◌}
-use Prim.Native.Nat.{ℕ, ◌*◌, ◌<◌}
-use mathlib.Core.List.{List, []}
-use mathlib.Core.Logic.{◌↔◌}
-use mathlib.Core.Option.{none}
-use lib.ListN.{length, get_or, take, drop}
+use Rattle.std.proofs.Common.{◌≡◌, refl, sym, ap, subst, ◌∙◌, ℕ, ◌*◌, ◌<◌, List, [], ◌↔◌, None, length, get_or, take}
+use Rattle.std.proofs.Common.{drop}
 use Rattle.rules.specs.Layout.{line_length, lines_at}
 use Rattle.rules.specs.Sheet.{clinic_of, line_count_of, in_use_of, slot_at}
 use Rattle.rules.specs.Refusals.{Outcome, read_number, read_words}
@@ -67,14 +63,14 @@ module _ (r : CallRun) (c : Clinic) (k : SlotNumber) where
   -- answer 14, and an in-use word above 1
   module _ (q : SlotCall) (e : call r ≡ call_on c k q) where
     pub run_14 : (number_of (reply r) ≡ 14)
-        ↔ ((fault_of q ≡ none) × Reached (before r) c.0 k.0 × (in_use_of (slot_at (before r) k.0) ≡ 0))
+        ↔ ((fault_of q ≡ None) × Reached (before r) c.0 k.0 × (in_use_of (slot_at (before r) k.0) ≡ 0))
     run_14 =
         by_step
         (λ o. (number_of o.0 ≡ 14)
-        ↔ ((fault_of q ≡ none) × Reached (before r) c.0 k.0 × (in_use_of (slot_at (before r) k.0) ≡ 0)))
+        ↔ ((fault_of q ≡ None) × Reached (before r) c.0 k.0 × (in_use_of (slot_at (before r) k.0) ≡ 0)))
         r (rw e (step_14 (before r) c k q))
 
-    pub run_misused : fault_of q ≡ none → Reached (before r) c.0 k.0 → 1 < in_use_of (slot_at (before r) k.0) →
+    pub run_misused : fault_of q ≡ None → Reached (before r) c.0 k.0 → 1 < in_use_of (slot_at (before r) k.0) →
         number_of (reply r) ≡ 4
     run_misused f h u =
         by_step (λ o. number_of o.0 ≡ 4) r (rw e (step_misused (before r) c k q f h u))

@@ -1,7 +1,5 @@
 -- What runs of the calls do is what the definitions say: their contracts. Assumes nothing.
-use mathlib.Core.Path.{◌≡◌, refl, sym, ap, ◌∙◌}
-use Prim.Native.Nat.{ℕ}
-use mathlib.Core.List.{List, [], ◌∷◌, map}
+use Rattle.std.proofs.Common.{◌≡◌, refl, sym, ap, ◌∙◌, ℕ, List, [], ◌∷◌, map}
 use Rattle.rules.specs.Refusals.{Answer, EditAnswer, as_edit, Outcome, edit_slot, on_slot, edit}
 use Rattle.rules.specs.Refusals.{read_number, read_part, read_words}
 use Rattle.rules.specs.Pool.{give_back_slot, giving_back}

@@ -1,8 +1,6 @@
 -- Runs of the calls, by name: words of the claims beside those of demand 3, which proofs/Demand3.antt has. Definitions
 -- alone. Assumes nothing.
-use mathlib.Core.Path.{◌≡◌}
-use Prim.Native.Nat.{ℕ}
-use mathlib.Core.List.{List}
+use Rattle.std.proofs.Common.{◌≡◌, ℕ, List}
 use Rattle.rules.specs.Records.{record_words}
 use Rattle.rules.specs.Sheet.{count_of, slot_at}
 use Rattle.rules.specs.Refusals.{Answer, says, EditAnswer, edit_says}

@@ -1,22 +1,15 @@
 -- Laws of set-up's three lists: the search for a slot out of limits, and set-up's answer. Assumes nothing.
-use mathlib.Core.Path.{◌≡◌, refl, sym, ap, ◌∙◌}
-use Prim.Native.Nat.{ℕ, suc, ◌+◌, ◌-◌, ◌*◌, ◌/◌, ◌≤◌, ◌<◌}
-use native.Mathlib.Nat.{sub-zero}
-use native.Mathlib.Numerals.{add-one}
-use native.Mathlib.Omega.{arith}
-use mathlib.Core.Bool.{Bool, true, false, cond, not, ◌||◌}
-use mathlib.Core.List.{List}
-use mathlib.Core.Logic.{inl, inr}
-use mathlib.Core.Option.{Option, none, some}
-use lib.Dec.{eqb}
-use lib.ListN.{length}
-use borrow.Author.Tests.{eqb-true, eq-eqb, ne_eqb, not-false}
-use Rattle.rules.specs.Layout.{slot_length}
+use Rattle.std.proofs.Common.{◌≡◌, refl, sym, ap, ◌∙◌, ℕ, suc, ◌+◌, ◌-◌, ◌*◌, ◌/◌, ◌≤◌, ◌<◌, add-one, arith, Bool}
+use Rattle.std.proofs.Common.{true, false, not, ◌||◌, List, inl, inr, Option, None, Some, eqb, length, eqb-true}
+use Rattle.std.proofs.Common.{eq-eqb, ne_eqb}
+use Rattle.std.proofs.Math.Bool.{or-true}
+use borrow.Author.Tests.{not-false}
+use Rattle.rules.specs.Layout.{most_slots, slot_length}
 use Rattle.rules.specs.Sheet.{slot_limits_ok, length_ok}
-use Rattle.rules.specs.Refusals.{Answer, says, Outcome, or_else, setting_at, bad_slot, fresh_slots}
+use Rattle.rules.specs.Refusals.{Answer, says, Outcome, or_else, setting_at, bad_slot}
 use Rattle.rules.specs.Refusals.{set_up_rows, set_up_answer, set_up}
-use Rattle.rules.proofs.Decisions.{tested}
-use Rattle.sheet.specs.Lists.{Matched}
+use Rattle.std.proofs.lemmas.Bool.{cases_Bool}
+use Rattle.sheet.specs.Lists.{Matched, all_fresh}
 use Rattle.sheet.proofs.Tables.{same_number}
 use Rattle.sheet.proofs.Lengths.{or_left, or_right, whole}
 
@@ -30,9 +23,6 @@ module _ (clinics measures indents : List ℕ) where
     pub rest : bad_slot k clinics measures indents (length clinics - k)
         ≡ bad_slot 0 clinics measures indents (length clinics)
 
-  pub search_none : Searched 0
-  search_none = record { within = omega arith; rest = rw sub-zero }
-
   one : {k : ℕ} → k < length clinics → length clinics - k ≡ suc (length clinics - (k + 1))
   one h = omega arith
 
@@ -40,38 +30,23 @@ module _ (clinics measures indents : List ℕ) where
   unfolding bad_slot
   search_more {k} s h g = record { within = omega arith; rest = rw (← s.rest, one h, g, bad_slot, add-one) }
 
-  pub search_found : {k : ℕ} → Searched k → k < length clinics → good k ≡ false → (a : Answer) →
-      says 11 k ≡ or_else 11 (bad_slot 0 clinics measures indents (length clinics)) a
+  pub search_found : {k : ℕ} → Searched k → k < length clinics → good k ≡ false →
+      Some k ≡ bad_slot 0 clinics measures indents (length clinics)
   unfolding bad_slot
-  search_found {k} s h g a = rw (← s.rest, one h, g, bad_slot)
+  search_found {k} s h g = rw (← s.rest, one h, g, bad_slot)
 
   pub search_all : {k : ℕ} → Searched k → length clinics ≤ k →
-      says 0 k ≡ or_else 11 (bad_slot 0 clinics measures indents (length clinics)) (says 0 (length clinics))
+      None ≡ bad_slot 0 clinics measures indents (length clinics)
   unfolding bad_slot
   search_all {k} s h =
-      let e : k ≡ length clinics = omega (arith, s.within) in
       let z : length clinics - k ≡ 0 = omega arith in
-      rw (← s.rest, z, e)
+      rw (← s.rest, z)
 
   -- answer 1 is due
   abbrev pub misfit : ℕ → Bool
   misfit n =
       not (length_ok n) || not (eqb (length clinics) (n / slot_length)) || not (eqb (length measures) (n / slot_length))
       || not (eqb (length indents) (n / slot_length))
-
-  -- as the program tells it, by the number of slots
-  pub misfit_by : (n p : ℕ) → p ≡ cond (length_ok n) (n / slot_length) 0 →
-      eqb p 0 || not (eqb (length clinics) p) || not (eqb (length measures) p) || not (eqb (length indents) p)
-      ≡ misfit n
-  misfit_by n p e =
-      elim (tested (length_ok n)) [
-        | inl o ↦
-            let d : p ≡ n / slot_length = rw o at e in
-            rw (o, d, ne_eqb (n / slot_length) 0 (λ z. omega (arith, (whole n o).some, z)))
-        | inr o ↦
-            let d : p ≡ 0 = rw o at e in
-            rw (o, d)
-      ]
 
   -- what the lists and the length tell where answer 1 is not due
   pub record Fitting (n : ℕ) : Type 0 where
@@ -113,7 +88,7 @@ module _ (clinics measures indents : List ℕ) where
   -- an accepted set-up: answer 1 was not due
   fits : (n : ℕ) → (set_up_answer n clinics measures indents).number ≡ 0 → misfit n ≡ false
   fits n z =
-      elim (tested (misfit n)) [
+      elim (cases_Bool (misfit n)) [
         | inl e ↦ absurd (omega (arith, same_number (answer_1 n e), z))
         | inr e ↦ e
       ]
@@ -123,26 +98,84 @@ module _ (clinics measures indents : List ℕ) where
 
   -- nor was 11
   pub accepted_limits : (n : ℕ) → (set_up_answer n clinics measures indents).number ≡ 0 →
-      bad_slot 0 clinics measures indents (length clinics) ≡ none
+      bad_slot 0 clinics measures indents (length clinics) ≡ None
   accepted_limits n z =
       none_named _ _ (same_number (answer_11 n (fits n z) _ refl) ∙ z)
     where
-      none_named : (o : Option ℕ) (a : Answer) → (or_else 11 o a).number ≡ 0 → o ≡ none
-      none_named none a e = refl
-      none_named (some i) a e = absurd (omega (arith, e))
+      none_named : (o : Option ℕ) (a : Answer) → (or_else 11 o a).number ≡ 0 → o ≡ None
+      none_named None a e = refl
+      none_named (Some i) a e = absurd (omega (arith, e))
 
-  -- set-up as a whole
-  pub set_up_refused : (ws : List ℕ) (a : Answer) → a ≡ set_up_answer (length ws) clinics measures indents →
-      (a.number ≡ 0 → ⊥) →
-      ◌≡◌ {A = Outcome Answer} (a, ws) (set_up ws clinics measures indents)
-  unfolding set_up
-  set_up_refused ws a e z = rw (← e, ne_eqb a.number 0 z)
+-- Set-up as a program tests its rows ---------------------------------------------------------------------------------
 
-  pub set_up_accepted : (ws last : List ℕ) (a : Answer) → a ≡ set_up_answer (length ws) clinics measures indents →
-      a.number ≡ 0 →
-      last ≡ fresh_slots 0 clinics measures indents (length clinics) →
-      ◌≡◌ {A = Outcome Answer} (a, last) (set_up ws clinics measures indents)
+module _ (clinics measures indents ws : List ℕ) where
+  abbrev answer : Answer
+  answer = set_up_answer (length ws) clinics measures indents
+
+  abbrev done : Outcome Answer
+  done = set_up ws clinics measures indents
+
+  refused : (a : Answer) → a ≡ answer → (a.number ≡ 0 → ⊥) → ◌≡◌ {A = Outcome Answer} (a, ws) done
   unfolding set_up
-  set_up_accepted ws last a e z h =
-      let s = (accepted (length ws) (same_number (sym e) ∙ z)).slots in
-      rw (← e, eq-eqb a.number 0 z, ← s, h)
+  refused a e z = rw (← e, ne_eqb a.number 0 z)
+
+  refused_1 : misfit clinics measures indents (length ws) ≡ true → ◌≡◌ {A = Outcome Answer} (says 1 0, ws) done
+  refused_1 e = refused (says 1 0) (answer_1 clinics measures indents (length ws) e) (λ z. omega (arith, z))
+
+  another : (l : List ℕ) → (length l ≡ length ws / slot_length → ⊥) →
+      not (eqb (length l) (length ws / slot_length)) ≡ true
+  another l d = rw (ne_eqb _ _ d)
+
+  pub no_sheet : length_ok (length ws) ≡ false → ◌≡◌ {A = Outcome Answer} (says 1 0, ws) done
+  no_sheet e = refused_1 (rw e)
+
+  pub other_clinics : (length clinics ≡ length ws / slot_length → ⊥) → ◌≡◌ {A = Outcome Answer} (says 1 0, ws) done
+  other_clinics d = refused_1 (rw (another clinics d, or-true))
+
+  pub other_measures : (length measures ≡ length ws / slot_length → ⊥) → ◌≡◌ {A = Outcome Answer} (says 1 0, ws) done
+  other_measures d = refused_1 (rw (another measures d, or-true))
+
+  pub other_indents : (length indents ≡ length ws / slot_length → ⊥) → ◌≡◌ {A = Outcome Answer} (says 1 0, ws) done
+  other_indents d = refused_1 (rw (another indents d, or-true))
+
+  module _ (o : length_ok (length ws) ≡ true) (c : length clinics ≡ length ws / slot_length)
+      (m : length measures ≡ length ws / slot_length)
+      (x : length indents ≡ length ws / slot_length) where
+    all_fit : misfit clinics measures indents (length ws) ≡ false
+    all_fit = rw (o, eq-eqb _ _ c, eq-eqb _ _ m, eq-eqb _ _ x)
+
+    pub few_slots : length clinics ≤ most_slots
+    few_slots = (fitting clinics measures indents (length ws) all_fit).few
+
+    pub exact_length : length ws ≡ slot_length * length clinics
+    exact_length = (fitting clinics measures indents (length ws) all_fit).exact
+
+    pub out_of_limits : (k : ℕ) → Some k ≡ bad_slot 0 clinics measures indents (length clinics) →
+        ◌≡◌ {A = Outcome Answer} (says 11 k, ws) done
+    out_of_limits k e =
+        refused (says 11 k)
+        (answer_11 clinics measures indents (length ws) all_fit (says 11 k)
+        (ap (λ b. or_else 11 b (says 0 (length clinics))) e))
+        (λ z. omega (arith, z))
+
+    pub all_set_up : (slots : ℕ) (last : List ℕ) → slots ≡ length ws / slot_length →
+        None ≡ bad_slot 0 clinics measures indents (length clinics) →
+        last ≡ all_fresh clinics measures indents →
+        ◌≡◌ {A = Outcome Answer} (says 0 slots, last) done
+    unfolding set_up
+    all_set_up slots last n e h =
+        let a : says 0 (length clinics) ≡ answer =
+        answer_11 clinics measures indents (length ws) all_fit (says 0 (length clinics))
+        (ap (λ b. or_else 11 b (says 0 (length clinics))) e) in
+        rw (← a, h, c, n)
+
+pub ruleset sets_up = (
+  no_sheet,
+  other_clinics,
+  other_measures,
+  other_indents,
+  few_slots,
+  exact_length,
+  out_of_limits,
+  all_set_up,
+)

@@ -1,13 +1,7 @@
 -- The single edit of a sound slot's records: what it leaves, and that every run of it on a fresh slot is accepted and
 -- leaves that. Assumes nothing.
-use mathlib.Core.Path.{◌≡◌, sym, ap, ◌∙◌}
-use Prim.Native.Nat.{ℕ, ◌<◌}
-use native.Mathlib.Omega.{arith}
-use mathlib.Core.Bool.{true, false, not, ◌||◌}
-use mathlib.Core.List.{List, []}
-use lib.Dec.{eqb}
-use lib.ListN.{length}
-use borrow.Author.Tests.{eq-eqb, ne_eqb}
+use Rattle.std.proofs.Common.{◌≡◌, sym, ap, ◌∙◌, ℕ, ◌<◌, arith, true, false, not, ◌||◌, List, [], eqb, length, eq-eqb}
+use Rattle.std.proofs.Common.{ne_eqb}
 use Rattle.rules.specs.Records.{record_words}
 use Rattle.rules.specs.Sheet.{clinic_of, in_use_of, length_ok, slot_count, slot_at}
 use Rattle.rules.specs.Refusals.{Answer, EditAnswer, reporting, Outcome, judged, entry_answer}

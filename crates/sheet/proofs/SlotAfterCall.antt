@@ -1,19 +1,13 @@
 -- What a slot is after a clinic's call: as it was, or what the call makes of it where it gets to that slot, which is
 -- then the clinic's own. Assumes nothing.
-use mathlib.Core.Path.{◌≡◌, refl, sym, ap, subst, ◌∙◌}
-use Prim.Native.Nat.{ℕ}
-use native.Mathlib.Omega.{arith}
-use mathlib.Core.List.{List}
-use mathlib.Core.Logic.{inl, inr}
-use mathlib.Core.Option.{Option, none, some}
-use lib.Dec.{eqb}
-use lib.ListN.{set}
-use lib.Seq.{get_or-set_other}
-use borrow.Author.Tests.{eqb-true, eqb-false}
+use Rattle.std.proofs.Common.{◌≡◌, refl, sym, ap, subst, ◌∙◌, ℕ, arith, List, inl, inr, Option, None, Some, eqb, set}
+use Rattle.std.proofs.Common.{get_or-set_other, eqb-true}
+use borrow.Author.Tests.{eqb-false}
 use Rattle.rules.specs.Sheet.{clinic_of, slot_at, with_slot}
 use Rattle.rules.specs.Refusals.{Outcome, entry_answer, on_slot}
 use Rattle.rules.specs.Pool.{use_at, taking}
-use Rattle.rules.proofs.Decisions.{tested, some_none}
+use Rattle.std.proofs.lemmas.Bool.{cases_Bool}
+use Rattle.std.proofs.lemmas.Option.{none-some}
 use Rattle.sheet.specs.Import.{unless_fault}
 use Rattle.sheet.specs.Book.{SlotCall, Call, call_set_up, call_take, call_on, Reply, edit_reply, refusal, fault_of}
 use Rattle.sheet.specs.OnSheet.{in_slot, step}
@@ -31,7 +25,7 @@ use Rattle.sheet.proofs.TakenSlots.{taken_slot, taken_beside, take_sets, take_ke
 abbrev pub Reaches : Call → List ℕ → ℕ → Type 0
 Reaches (call_set_up clinics measures indents) ws k = ⊥
 Reaches (call_take caller) ws k = ((taking ws caller.0).0.number ≡ 0) × (k ≡ (taking ws caller.0).0.place)
-Reaches (call_on caller j q) ws k = (fault_of q ≡ none) × ((entry_answer ws caller.0 j.0).number ≡ 0) × (k ≡ j.0)
+Reaches (call_on caller j q) ws k = (fault_of q ≡ None) × ((entry_answer ws caller.0 j.0).number ≡ 0) × (k ≡ j.0)
 
 -- what it makes of the words of a slot that it gets to
 abbrev pub makes : Call → List ℕ → List ℕ
@@ -58,7 +52,7 @@ module _ (caller : Clinic) (ws : List ℕ) (k : ℕ) where
   granted z =
       let sets = ap (λ l. slot_at l k) (take_sets ws caller.0 z) in
       let own = (granted_lowest (took ws caller.0) z).1.free.own in
-      elim (tested (eqb k j)) [
+      elim (cases_Bool (eqb k j)) [
         | inl t ↦
             let same = eqb-true k j t in
             changed (z, same) (own ∙ ap (λ n. clinic_of (slot_at ws n)) (sym same))
@@ -72,7 +66,7 @@ module _ (caller : Clinic) (ws : List ℕ) (k : ℕ) where
 
   after_take : After caller.0 (call_take caller) ws k (slot_at ws k) (slot_at out k)
   after_take =
-      elim (tested (eqb (taking ws caller.0).0.number 0)) [
+      elim (cases_Bool (eqb (taking ws caller.0).0.number 0)) [
         | inl e ↦ granted (eqb-true _ _ e)
         | inr e ↦
             let z = eqb-false _ _ e in
@@ -88,13 +82,13 @@ module _ (caller : Clinic) (j : SlotNumber) (q : SlotCall) (ws : List ℕ) (k : 
   abbrev made : List ℕ → List ℕ
   made s = (in_slot q s).1
 
-  after_entering : fault_of q ≡ none → (entry_answer ws caller.0 j.0).number ≡ 0 →
+  after_entering : fault_of q ≡ None → (entry_answer ws caller.0 j.0).number ≡ 0 →
       AfterOn (slot_at (with_slot ws j.0 (made (slot_at ws j.0))) k)
   after_entering e z =
       let w = (keeps q).whole (slot_at ws j.0) (length_slot_at ws caller.0 j.0 z) in
       let room = room ws caller.0 j.0 z in
       let now_there : List ℕ = with_slot ws j.0 (made (slot_at ws j.0)) in
-      elim (tested (eqb k j.0)) [
+      elim (cases_Bool (eqb k j.0)) [
         | inl t ↦
             let same = eqb-true k j.0 t in
             changed (e, z, same) ((entry_passed ws caller.0 j.0 z).own
@@ -109,8 +103,8 @@ module _ (caller : Clinic) (j : SlotNumber) (q : SlotCall) (ws : List ℕ) (k : 
   after_on : (f : Option ℕ) → fault_of q ≡ f →
       AfterOn
       (slot_at (unless_fault edit_reply f ws (on_slot (refusal q) ws caller.0 j.0 (in_slot q))).1 k)
-  after_on (some p) e = stayed (λ h. some_none (sym e ∙ h.0)) refl
-  after_on none e = from (on_cases (refusal q) ws caller.0 j.0 (in_slot q))
+  after_on (Some p) e = stayed (λ h. none-some _ (sym h.0 ∙ e)) refl
+  after_on None e = from (on_cases (refusal q) ws caller.0 j.0 (in_slot q))
     where
       from : {o : Outcome Reply} → Done (refusal q) ws caller.0 j.0 (in_slot q) o → AfterOn (slot_at o.1 k)
       from (refusing z) = stayed (λ h. z h.1) refl

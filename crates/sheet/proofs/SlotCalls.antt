@@ -1,20 +1,15 @@
 -- What each call on a slot keeps to, there and in the book. All that is proved of calls and of sequences of calls
 -- follows from these: a new call is one clause here. Assumes nothing.
-use mathlib.Core.Path.{◌≡◌, refl, sym, ap, ◌∙◌}
-use Prim.Native.Nat.{ℕ, ◌≤◌, ◌<◌}
-use native.Mathlib.Omega.{arith}
-use mathlib.Core.Bool.{or-true}
-use mathlib.Core.List.{List, []}
-use mathlib.Core.Logic.{inl, inr}
-use lib.ListN.{length}
-use borrow.Author.Tests.{le-ltb, lt-ltb, ne_eqb}
+use Rattle.std.proofs.Common.{◌≡◌, refl, sym, ap, ◌∙◌, ℕ, ◌≤◌, ◌<◌, arith, List, [], inl, inr, length, le-ltb, lt-ltb}
+use Rattle.std.proofs.Common.{ne_eqb}
+use Rattle.std.proofs.Math.Bool.{or-true}
 use Rattle.rules.specs.Layout.{most_records, slot_length}
 use Rattle.rules.specs.Groups.{units}
 use Rattle.rules.specs.Adjustment.{compose}
 use Rattle.rules.specs.Sheet.{with_use, fresh, clinic_of, count_of, in_use_of}
 use Rattle.rules.specs.Refusals.{Answer, says, EditAnswer, Outcome, sound, edit_slot, read_rows}
 use Rattle.rules.specs.Pool.{give_back_rows, give_back_slot}
-use Rattle.rules.proofs.Decisions.{tested}
+use Rattle.std.proofs.lemmas.Bool.{cases_Bool}
 use Rattle.rules.proofs.Zeros.{length_zeros}
 use Rattle.rules.proofs.WordCounts.{composed_few}
 use Rattle.leaflet.specs.Reader.{words_in}
@@ -137,7 +132,7 @@ give_booked s h =
 
 given_length : (s : List ℕ) → length s ≡ slot_length → length (give_back_slot s).1 ≡ slot_length
 unfolding give_back_slot give_back_rows
-given_length s h = elim (tested (sound s)) [ inl e ↦ rw e (omega (arith, length_zeros 2821)) | inr e ↦ rw e h ]
+given_length s h = elim (cases_Bool (sound s)) [ inl e ↦ rw e (omega (arith, length_zeros 2821)) | inr e ↦ rw e h ]
 
 given_unchanged : (s : List ℕ) → ((give_back_slot s).0.number ≡ 0 → ⊥) → (give_back_slot s).1 ≡ s
 unfolding give_back_slot
@@ -145,7 +140,7 @@ given_unchanged s z = rw (ne_eqb _ _ z)
 
 given_clinic : (s : List ℕ) → clinic_of (give_back_slot s).1 ≡ clinic_of s
 unfolding give_back_slot give_back_rows
-given_clinic s = elim (tested (sound s)) [ inl e ↦ rw e | inr e ↦ rw e ]
+given_clinic s = elim (cases_Bool (sound s)) [ inl e ↦ rw e | inr e ↦ rw e ]
 
 given_not_14 : (s : List ℕ) → (give_back_slot s).0.number ≡ 14 → ⊥
 unfolding give_back_slot give_back_rows

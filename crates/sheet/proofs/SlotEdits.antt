@@ -1,15 +1,8 @@
 -- What an edit does to a slot of any words: that it keeps the slot's length, that a refused one changes nothing, what
 -- an accepted one leaves, and what its answer says of the new records. Assumes nothing.
-use mathlib.Core.Path.{◌≡◌, refl, sym, ap, ◌∙◌}
-use Prim.Native.Nat.{ℕ, ◌+◌, ◌*◌, ◌/◌, ◌%◌, ◌≤◌, ◌<◌}
-use native.Mathlib.Omega.{arith}
-use mathlib.Core.Bool.{true, false}
-use mathlib.Core.List.{List}
-use mathlib.Core.Logic.{inl, inr}
-use lib.Dec.{ltb, eqb}
-use lib.ListN.{length, drop}
-use lib.Seq.{take_all}
-use borrow.Author.Tests.{eqb-true, eq-eqb, ne_eqb, ltb-false, not-false}
+use Rattle.std.proofs.Common.{◌≡◌, refl, sym, ap, ◌∙◌, ℕ, ◌+◌, ◌*◌, ◌/◌, ◌%◌, ◌≤◌, ◌<◌, arith, true, false, List, inl}
+use Rattle.std.proofs.Common.{inr, ltb, eqb, length, drop, take_all, eqb-true, eq-eqb, ne_eqb, ltb-false}
+use borrow.Author.Tests.{not-false}
 use Rattle.rules.specs.Basics.{first_of}
 use Rattle.rules.specs.Layout.{most_records, record_length, slot_length}
 use Rattle.rules.specs.Records.{Rec, records, record_words}
@@ -19,7 +12,7 @@ use Rattle.rules.specs.Sheet.{Setting, slot_words, clinic_of, measure_of, indent
 use Rattle.rules.specs.Sheet.{records_of}
 use Rattle.rules.specs.Refusals.{Answer, EditAnswer, edit_says, Outcome, judged, sound, edited, edit_redone, slot_rows}
 use Rattle.rules.specs.Refusals.{edit_slot}
-use Rattle.rules.proofs.Decisions.{tested}
+use Rattle.std.proofs.lemmas.Bool.{cases_Bool}
 use Rattle.rules.proofs.RecordWords.{length_records, words_records}
 use Rattle.rules.proofs.Judged.{judged_0}
 use Rattle.slot.proofs.StoredRecords.{sound_in_use}
@@ -32,7 +25,7 @@ use Rattle.sheet.proofs.BookSlots.{splice_few}
 -- an in-use word above 1 counts under 4
 pub use_unsound : (s : List ℕ) → 1 < in_use_of s → sound s ≡ false
 use_unsound s u =
-    elim (tested (sound s)) [ inl e ↦ absurd (omega (arith, sound_in_use s e)) | inr e ↦ e ]
+    elim (cases_Bool (sound s)) [ inl e ↦ absurd (omega (arith, sound_in_use s e)) | inr e ↦ e ]
 
 module _ (s : List ℕ) (place deleted : ℕ) (inserted : List ℕ) where
   abbrev done : Outcome EditAnswer
@@ -120,7 +113,7 @@ module _ (s : List ℕ) (place deleted : ℕ) (inserted : List ℕ) where
   pub slot_clinic : clinic_of done.1 ≡ clinic_of s
   unfolding edit_slot
   slot_clinic =
-      elim (tested (eqb rows.number 0)) [
+      elim (cases_Bool (eqb rows.number 0)) [
         | inl e ↦ rw e (ap (λ (t : Setting). t.clinic) (slot_setting (setting_of s) new))
         | inr e ↦ rw e
       ]
@@ -132,7 +125,7 @@ module _ (s : List ℕ) (place deleted : ℕ) (inserted : List ℕ) where
   pub length_edit_slot : length s ≡ slot_length → length done.1 ≡ slot_length
   unfolding edit_slot slot_rows
   length_edit_slot h =
-      elim (tested (eqb rows.number 0)) [
+      elim (cases_Bool (eqb rows.number 0)) [
         | inl e ↦ rw e (length_slot (setting_of s) new (slot_judged 0 refl (eqb-true _ _ e)).few)
         | inr e ↦ rw e h
       ]

@@ -1,16 +1,13 @@
 -- Laws of a slot in its sheet: what stands where once the slot has other words. Assumes nothing.
-use mathlib.Core.Path.{◌≡◌, sym, ap, ◌∙◌}
-use Prim.Native.Nat.{ℕ, ◌+◌, ◌-◌, ◌*◌, ◌≤◌, ◌<◌, min}
-use native.Mathlib.Omega.{arith}
-use mathlib.Core.List.{List, ◌++◌}
-use mathlib.Core.Logic.{inl, inr}
-use lib.ListN.{length, get_or, take, drop, set, length-append, length-take, length-drop, take-append-drop}
-use lib.ListN.{get_or-append}
-use lib.Seq.{length-take-le, take_at, drop_at, get_or-take, get_or-drop, get_or-append-add, ext_get_or}
+use Rattle.std.proofs.Common.{◌≡◌, sym, ap, ◌∙◌, ℕ, ◌+◌, ◌-◌, ◌*◌, ◌≤◌, ◌<◌, min, arith, List, ◌++◌, inl, inr, length}
+use Rattle.std.proofs.Common.{get_or, take, drop, set, length-append, length-take, length-drop, take-append-drop}
+use Rattle.std.proofs.Common.{length-take-le, take_at, drop_at, get_or-take, get_or-drop, get_or-append-add}
+use Rattle.std.proofs.Common.{ext_get_or}
+use Rattle.std.proofs.Math.ListN.{get_or-append}
 use borrow.Rule.Slice.PartMut.{set_mid_at}
 use Rattle.rules.specs.Layout.{slot_length}
 use Rattle.rules.specs.Sheet.{slot_at, with_slot}
-use Rattle.rules.proofs.Decisions.{ordered}
+use Rattle.std.proofs.lemmas.Bool.{cases_lt}
 use Rattle.sheet.specs.Meanings.{Outside}
 use Rattle.sheet.proofs.EntryLaws.{word_at}
 
@@ -85,9 +82,9 @@ slot_beside ws k s within whole j other =
   where
     beside : (i : ℕ) → i < slot_length → Outside k (slot_length * j + i)
     beside i h =
-        elim (ordered j k) [
+        elim (cases_lt j k) [
           | inl l ↦ inl (omega arith)
-          | inr l ↦ elim (ordered k j) [ inl g ↦ inr (omega arith) | inr g ↦ absurd (other (omega arith)) ]
+          | inr l ↦ elim (cases_lt k j) [ inl g ↦ inr (omega arith) | inr g ↦ absurd (other (omega arith)) ]
         ]
 
 -- one word of a slot changed

@@ -1,22 +1,14 @@
 -- Laws of a table of refusals, whose answer is that of the first row that applies. Assumes nothing.
-use mathlib.Core.Path.{◌≡◌, refl, ap}
-use Prim.Native.Nat.{ℕ}
-use mathlib.Core.Bool.{Bool, true, false, cond, not, ◌&&◌}
-use mathlib.Core.List.{List, [], ◌∷◌, ◌++◌}
-use mathlib.Core.Logic.{inl, inr}
-use lib.Dec.{eqb}
+use Rattle.std.proofs.Common.{◌≡◌, refl, ap, ℕ, Bool, true, false, cond, not, ◌&&◌, List, [], ◌∷◌, ◌++◌, inl, inr}
+use Rattle.std.proofs.Common.{eqb}
 use borrow.Author.Tests.{eqb-false, not-true}
 use Rattle.rules.specs.Basics.{first_of}
 use Rattle.rules.specs.Refusals.{Answer, says}
-use Rattle.rules.proofs.Decisions.{tested}
+use Rattle.std.proofs.lemmas.Bool.{cases_Bool}
 use Rattle.rules.proofs.RecordLimits.{and_left, and_right}
 
 pub same_number : {a b : Answer} → a ≡ b → a.number ≡ b.number
 same_number e = ap (λ a. a.number) e
-
--- an answer, as the program makes it
-pub said : {number place n p : ℕ} → (number ≡ n) × (place ≡ p) → says number place ≡ says n p
-said e = rw (e.0, e.1)
 
 -- no row gives number n
 abbrev pub lacking : ℕ → List (Bool × Answer) → Bool
@@ -35,7 +27,7 @@ passed n [] a l e = (tt, e)
 passed n (row ∷ rows) a l e =
     let here = and_left (not (eqb row.1.number n)) (lacking n rows) l in
     let rest = and_right (not (eqb row.1.number n)) (lacking n rows) l in
-    elim (tested row.0) [
+    elim (cases_Bool row.0) [
       | inl t ↦ absurd (eqb-false _ _ (not-true _ here) (rw t at e))
       | inr t ↦ let p = passed n rows a rest (rw t at e) in ((t, p.0), p.1)
     ]
@@ -53,7 +45,7 @@ then_table [] more a l = refl
 then_table (row ∷ rows) more a l =
     let here = and_left (not (eqb row.1.number 0)) (lacking 0 rows) l in
     let rest = and_right (not (eqb row.1.number 0)) (lacking 0 rows) l in
-    elim (tested row.0) [
+    elim (cases_Bool row.0) [
       | inl t ↦ rw (t, not-true (eqb row.1.number 0) here)
       | inr t ↦ rw t (then_table rows more a rest)
     ]

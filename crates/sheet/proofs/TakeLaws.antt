@@ -1,21 +1,15 @@
 -- What a take answers and leaves, row by row, and as a program goes through the slots. Assumes nothing.
-use mathlib.Core.Path.{◌≡◌, refl, sym, ap, ◌∙◌}
-use Prim.Native.Nat.{ℕ, suc, ◌+◌, ◌-◌, ◌*◌, ◌≤◌, ◌<◌}
-use native.Mathlib.Nat.{sub-zero}
-use native.Mathlib.Omega.{arith}
-use mathlib.Core.Bool.{true, false}
-use mathlib.Core.List.{List}
-use mathlib.Core.Logic.{inl, inr}
-use mathlib.Core.Option.{Option}
-use lib.Dec.{eqb}
-use lib.ListN.{length, set}
-use borrow.Author.Tests.{eqb-true, eqb-false, eq-eqb, ne_eqb}
+use Rattle.std.proofs.Common.{◌≡◌, refl, sym, ap, ◌∙◌, ℕ, suc, ◌+◌, ◌-◌, ◌*◌, ◌≤◌, ◌<◌, arith, true, false, List, inl}
+use Rattle.std.proofs.Common.{inr, Option, None, Some, eqb, length, get_or, set, eqb-true, eq-eqb, ne_eqb}
+use Rattle.std.proofs.Math.Nat.{sub-zero}
+use borrow.Author.Tests.{eqb-false}
 use Rattle.rules.specs.Layout.{slot_length}
 use Rattle.rules.specs.Sheet.{Setting, setting_of, slot_count, length_ok, slot_at}
 use Rattle.rules.specs.Refusals.{Answer, says, Outcome}
 use Rattle.rules.specs.Pool.{OwnSlot, own_among, own_slots, lowest_free, granted, take_rows, take_answer, use_at}
 use Rattle.rules.specs.Pool.{taking}
-use Rattle.rules.proofs.Decisions.{tested}
+use Rattle.std.proofs.lemmas.Bool.{cases_Bool}
+use Rattle.sheet.proofs.EntryLaws.{clinic_at, in_use_word}
 use Rattle.sheet.specs.FreeSlots.{Free, LowestFree, Takeable}
 use Rattle.rules.specs.LowestFree.{FreeAt, Found, found, not_found}
 use Rattle.rules.proofs.OwnSlots.{free_here, free_later, lowest}
@@ -76,9 +70,9 @@ module _ (ws : List ℕ) (caller : ℕ) where
   pub took : Took (taking ws caller)
   unfolding own_slots
   took =
-      elim (tested (length_ok (length ws))) [
+      elim (cases_Bool (length_ok (length ws))) [
         | inl e ↦
-            elim (tested (eqb caller 0)) [
+            elim (cases_Bool (eqb caller 0)) [
               | inl f ↦
                   let z = eqb-true caller 0 f in
                   rw (taking_by (says 3 0) (answers_3 (length ws) caller (own_slots ws caller) e z) (λ y. omega arith))
@@ -114,7 +108,7 @@ module _ (ws : List ℕ) (caller slots : ℕ) where
       let n : slot_count ws ≡ slots = omega (arith, h) in
       record { within = omega arith; rest = rw (n, sub-zero) }
 
-  pub looked_more : {k : ℕ} → Looked k → k < slots → (FreeAt (settings ws) caller k → ⊥) → Looked (k + 1)
+  looked_more : {k : ℕ} → Looked k → k < slots → (FreeAt (settings ws) caller k → ⊥) → Looked (k + 1)
   looked_more {k} l h f =
       let n : slots - k ≡ suc (slots - (k + 1)) = omega arith in
       let m : suc k ≡ k + 1 = omega arith in
@@ -125,16 +119,28 @@ module _ (ws : List ℕ) (caller slots : ℕ) where
             ∙ ap (λ j. lowest_free (own_among (settings ws) caller j (slots - (k + 1)))) m;
       }
 
-  pub looked_here : {k : ℕ} → Looked k → k < slots → FreeAt (settings ws) caller k →
-      says 0 k ≡ granted (lowest_free (own_slots ws caller))
-  looked_here {k} l h f =
-      let n : slots - k ≡ suc (slots - (k + 1)) = omega arith in
-      sym (ap granted
-      (l.rest ∙ ap (λ j. lowest_free (own_among (settings ws) caller k j)) n
-      ∙ free_here (settings ws) caller k (slots - (k + 1)) f))
+  -- as the program tests slot k
+  pub looked_foreign : {k : ℕ} → Looked k → k < slots → (get_or ws (slot_length * k) 0 ≡ caller → ⊥) → Looked (k + 1)
+  looked_foreign {k} l h d = looked_more l h (λ f. d (sym (clinic_at ws k) ∙ sym f.0))
 
-  pub looked_all : {k : ℕ} → Looked k → slots ≤ k → says 13 0 ≡ granted (lowest_free (own_slots ws caller))
+  pub looked_used : {k : ℕ} → Looked k → k < slots → (get_or ws (use_at k) 0 ≡ 0 → ⊥) → Looked (k + 1)
+  looked_used {k} l h d = looked_more l h (λ f. d (sym (in_use_word ws k) ∙ f.1))
+
+  pub looked_free : {k : ℕ} → Looked k → k < slots → get_or ws (slot_length * k) 0 ≡ caller →
+      get_or ws (use_at k) 0 ≡ 0 →
+      lowest_free (own_slots ws caller) ≡ Some k
+  looked_free {k} l h own free =
+      let n : slots - k ≡ suc (slots - (k + 1)) = omega arith in
+      let f : FreeAt (settings ws) caller k = (sym (clinic_at ws k ∙ own), in_use_word ws k ∙ free) in
+      l.rest ∙ ap (λ j. lowest_free (own_among (settings ws) caller k j)) n
+      ∙ free_here (settings ws) caller k (slots - (k + 1)) f
+
+  pub looked_all : {k : ℕ} → Looked k → slots ≤ k → lowest_free (own_slots ws caller) ≡ None
   unfolding own_among lowest_free
   looked_all {k} l h =
       let n : slots - k ≡ 0 = omega arith in
-      sym (ap granted (l.rest ∙ ap (λ j. lowest_free (own_among (settings ws) caller k j)) n))
+      l.rest ∙ ap (λ j. lowest_free (own_among (settings ws) caller k j)) n
+
+pub ruleset take_rows_tested = (answers_1, answers_3, answers_granted)
+
+pub ruleset slots_tested = (looked_none, looked_foreign, looked_used, looked_free, looked_all)

@@ -1,20 +1,16 @@
 -- A sheet with one slot taken: what its slots are, and each clinic's own ones; and what a take of two sheets that are
 -- alike for it answers and leaves. Assumes nothing.
-use mathlib.Core.Path.{◌≡◌, sym, ap, ◌∙◌}
-use Prim.Native.Nat.{ℕ, ◌+◌, ◌*◌, ◌≤◌}
-use native.Mathlib.Omega.{arith}
-use mathlib.Core.Bool.{true, cond}
-use mathlib.Core.List.{List, map}
-use mathlib.Core.Logic.{inl, inr}
-use lib.Dec.{eqb}
-use lib.ListN.{length, set, length-set}
-use lib.Seq.{get_or-set_same, get_or-set_other}
-use borrow.Author.Tests.{eqb-true, eqb-false, eq-eqb, ne_eqb}
+use Rattle.std.proofs.Common.{◌≡◌, refl, sym, ap, ◌∙◌, ℕ, ◌+◌, ◌*◌, ◌≤◌, arith, true, cond, List, map, inl, inr, eqb}
+use Rattle.std.proofs.Common.{length, set, length-set, get_or-set_same, get_or-set_other, eqb-true, eq-eqb, ne_eqb}
+use borrow.Author.Tests.{eqb-false}
 use Rattle.rules.specs.Layout.{slot_length}
 use Rattle.rules.specs.Sheet.{with_use, setting_of, slot_count, length_ok, slot_at, with_slot}
-use Rattle.rules.specs.Refusals.{Answer, Outcome}
+use Rattle.rules.specs.Refusals.{Answer, says, Outcome}
+use Rattle.rules.specs.Numbers.{refused_with}
+use Rattle.rules.specs.declared.refusal.Refusal.{Refusal}
+use Rattle.slot.proofs.RefusalNumbers.{number_not_0}
 use Rattle.rules.specs.Pool.{own_slots, take_answer, use_at, taking}
-use Rattle.rules.proofs.Decisions.{tested}
+use Rattle.std.proofs.lemmas.Bool.{cases_Bool}
 use Rattle.sheet.specs.Meanings.{AlikeOwn}
 use Rattle.sheet.proofs.Tables.{same_number}
 use Rattle.sheet.proofs.Lengths.{whole}
@@ -52,7 +48,7 @@ module _ (ws : List ℕ) (k : ℕ) (room : slot_length * k + slot_length ≤ len
 
   taken_settings : (j : ℕ) → settings taken j ≡ cond (eqb j k) (with_use (settings ws j) 1) (settings ws j)
   taken_settings j =
-      elim (tested (eqb j k)) [
+      elim (cases_Bool (eqb j k)) [
         | inl e ↦
             let same = eqb-true j k e in
             rw (e, same) (ap setting_of taken_slot ∙ used_setting (slot_at ws k) (length_at ws k room))
@@ -79,7 +75,7 @@ module _ (ws : List ℕ) (caller : ℕ) where
 
   pub take_length : length (taking ws caller).1 ≡ length ws
   take_length =
-      elim (tested (eqb (taking ws caller).0.number 0)) [
+      elim (cases_Bool (eqb (taking ws caller).0.number 0)) [
         | inl e ↦ ap length (take_sets (eqb-true _ _ e)) ∙ length-set ws _ 1
         | inr e ↦ ap length (take_keeps (eqb-false _ _ e))
       ]
@@ -110,6 +106,24 @@ module _ (ws : List ℕ) (caller : ℕ) (a : Answer)
   unfolding taking
   takes_none z = rw (← e, ne_eqb _ _ z)
 
+-- by what a program knows of that answer
+module _ (ws : List ℕ) (caller : ℕ) where
+  abbrev answer : Answer
+  answer = take_answer (length ws) caller (own_slots ws caller)
+
+  pub take_room : (k : ℕ) → says 0 k ≡ answer → slot_length * k + slot_length ≤ length ws
+  take_room k e = answer_room ws caller (says 0 k) e refl
+
+  pub take_done : (k : ℕ) → says 0 k ≡ answer →
+      ◌≡◌ {A = Outcome Answer} (says 0 k, set ws (use_at k) 1) (taking ws caller)
+  take_done k e = takes_slot ws caller (says 0 k) e refl
+
+  pub take_refused : (r : Refusal) → refused_with r ≡ answer →
+      ◌≡◌ {A = Outcome Answer} (refused_with r, ws) (taking ws caller)
+  take_refused r e = takes_none ws caller (refused_with r) e (number_not_0 r)
+
+pub ruleset takes = (take_room, take_done, take_refused)
+
 -- Two sheets --------------------------------------------------------------------------------------------------------
 
 module _ (ws vs : List ℕ) (caller : ℕ) (a : AlikeOwn caller ws vs) where
@@ -117,9 +131,9 @@ module _ (ws vs : List ℕ) (caller : ℕ) (a : AlikeOwn caller ws vs) where
   pub take_alike : (taking ws caller).0 ≡ (taking vs caller).0
   unfolding taking
   take_alike =
-      elim (tested (length_ok (length ws))) [
+      elim (cases_Bool (length_ok (length ws))) [
         | inl e ↦
-            elim (tested (eqb caller 0)) [
+            elim (cases_Bool (eqb caller 0)) [
               | inl f ↦
                   let z = eqb-true caller 0 f in
                   answers_3 (length ws) caller (own_slots ws caller) e z
@@ -145,7 +159,7 @@ module _ (ws vs : List ℕ) (caller : ℕ) (a : AlikeOwn caller ws vs) where
           own_slots (taking ws caller).1 caller ≡ own_slots (taking vs caller).1 caller
       left_own e known =
           let own = a.same_own e known in
-          elim (tested (eqb (taking ws caller).0.number 0)) [
+          elim (cases_Bool (eqb (taking ws caller).0.number 0)) [
             | inl f ↦
                 let z = eqb-true _ _ f in
                 let y : (taking vs caller).0.number ≡ 0 = sym (same_number take_alike) ∙ z in

@@ -1,5 +1,5 @@
 -- Laws of runs of two clinics' calls, from those of the definitions. Assumes nothing.
-use mathlib.Core.Path.{◌≡◌, sym, ap, ◌∙◌}
+use Rattle.std.proofs.Common.{◌≡◌, sym, ap, ◌∙◌}
 use Rattle.rules.specs.Refusals.{Outcome}
 use Rattle.sheet.specs.Book.{Reply}
 use Rattle.sheet.specs.OnSheet.{step}

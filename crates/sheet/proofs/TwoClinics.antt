@@ -1,19 +1,13 @@
 -- Calls of two clinics: what one of them leaves is the same to the other, and the order in which they come tells in
 -- nothing. Assumes nothing.
-use mathlib.Core.Path.{◌≡◌, sym, ap, subst, ◌∙◌}
-use Prim.Native.Nat.{ℕ, ◌+◌, ◌*◌, ◌/◌, ◌%◌, ◌<◌}
-use native.Mathlib.Omega.{arith}
-use mathlib.Core.List.{List}
-use mathlib.Core.Logic.{◌↔◌, inl, inr}
-use lib.Dec.{eqb}
-use lib.ListN.{length, get_or}
-use lib.Seq.{ext_get_or}
-use borrow.Author.Tests.{eqb-true, eqb-false}
+use Rattle.std.proofs.Common.{◌≡◌, sym, ap, subst, ◌∙◌, ℕ, ◌+◌, ◌*◌, ◌/◌, ◌%◌, ◌<◌, arith, List, ◌↔◌, inl, inr, eqb}
+use Rattle.std.proofs.Common.{length, get_or, ext_get_or, eqb-true}
+use borrow.Author.Tests.{eqb-false}
 use Rattle.rules.specs.Layout.{slot_length}
 use Rattle.rules.specs.Sheet.{clinic_of, in_use_of, slot_count, slot_at}
 use Rattle.rules.specs.Refusals.{Answer}
 use Rattle.rules.specs.Pool.{own_among, own_slots}
-use Rattle.rules.proofs.Decisions.{tested}
+use Rattle.std.proofs.lemmas.Bool.{cases_Bool}
 use Rattle.sheet.specs.Book.{Call, call_set_up, call_take, call_on}
 use Rattle.sheet.specs.OnSheet.{step}
 use Rattle.sheet.specs.Meanings.{AlikeFor, By}
@@ -128,11 +122,11 @@ module _ (d e : ℕ) (other : d ≡ e → ⊥) (ws us vs ts ss : List ℕ) (firs
       = λ f. second.others k (λ g. f (g ∙ first.clinics k)) in
       let d_left : (d ≡ c → ⊥) → slot_at ss k ≡ slot_at ts k
       = λ f. other_second.others k (λ g. f (g ∙ other_first.clinics k)) in
-      elim (tested (eqb d c)) [
+      elim (cases_Bool (eqb d c)) [
         | inl t ↦ let own = eqb-true d c t in e_left (λ f. other (own ∙ sym f)) ∙ sym (own_d k own)
         | inr t ↦
             let not_d = eqb-false d c t in
-            elim (tested (eqb e c)) [
+            elim (cases_Bool (eqb e c)) [
               | inl r ↦ own_e k (eqb-true e c r) ∙ sym (d_left not_d)
               | inr r ↦
                   let not_e = eqb-false e c r in

@@ -1,17 +1,12 @@
 -- Two sheets: what a call on a slot answers, and leaves of the slot, depends on the sheet's length, the slot's clinic
 -- and, where that is the caller, the slot's words; whatever the call does there. Assumes nothing.
-use mathlib.Core.Path.{◌≡◌, refl, sym, ap, ◌∙◌}
-use Prim.Native.Nat.{ℕ, ◌/◌}
-use mathlib.Core.Bool.{Bool, true, false, not, ◌||◌}
-use mathlib.Core.List.{List}
-use mathlib.Core.Logic.{inl, inr}
-use lib.Dec.{leb, eqb}
-use lib.ListN.{length}
-use borrow.Author.Tests.{eqb-true, eqb-false}
+use Rattle.std.proofs.Common.{◌≡◌, refl, sym, ap, ◌∙◌, ℕ, ◌/◌, Bool, true, false, not, ◌||◌, List, inl, inr, leb, eqb}
+use Rattle.std.proofs.Common.{length, eqb-true}
+use borrow.Author.Tests.{eqb-false}
 use Rattle.rules.specs.Layout.{slot_length}
 use Rattle.rules.specs.Sheet.{clinic_of, in_use_of, slot_count, length_ok, slot_at}
 use Rattle.rules.specs.Refusals.{Answer, says, Outcome, entry_rows, entry_answer, on_slot}
-use Rattle.rules.proofs.Decisions.{tested}
+use Rattle.std.proofs.lemmas.Bool.{cases_Bool}
 use Rattle.sheet.specs.Meanings.{beyond, Alike}
 use Rattle.sheet.proofs.Tables.{same_number, passed}
 use Rattle.sheet.proofs.EntryLaws.{four, foreign, not_foreign, entry_passed}
@@ -66,7 +61,7 @@ module _ (ws vs : List ℕ) (caller k : ℕ) (a : Alike caller k ws vs) where
     pub on_alike : (on ws).0 ≡ (on vs).0
     unfolding on_slot
     on_alike =
-        elim (tested (eqb (entry_answer ws caller k).number 0)) [
+        elim (cases_Bool (eqb (entry_answer ws caller k).number 0)) [
           | inl e ↦ rw (← same_entry, e, same_slot (eqb-true _ _ e))
           | inr e ↦ rw (← same_entry, e)
         ]
@@ -76,7 +71,7 @@ module _ (ws vs : List ℕ) (caller k : ℕ) (a : Alike caller k ws vs) where
         caller ≡ clinic_of (slot_at ws k) → slot_at (on ws).1 k ≡ slot_at (on vs).1 k
     on_left_alike keeps b known own =
         let same = a.same_words b known own in
-        elim (tested (eqb (entry_answer ws caller k).number 0)) [
+        elim (cases_Bool (eqb (entry_answer ws caller k).number 0)) [
           | inl e ↦
               let z = eqb-true _ _ e in
               slot_is_inside refused ws caller k f keeps z

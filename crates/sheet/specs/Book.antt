@@ -1,7 +1,6 @@
--- Document 01, "The book of demand 3": the book, the calls in it, sequences of calls, and a slot's history; with
--- document 02's request 05: "Demand 3's sequences hold imports too", and its request 07: "Demand 3's sequences hold
--- takings and givings back among the edits and reads". What demand 3 says of runs of the calls themselves is
--- proofs/Demand3.antt; the calls on a sheet are specs/OnSheet.antt.
+-- docs/RULES.md, "The book of demand 3": the book, the calls in it, sequences of calls, imports, takings and givings
+-- back among them, and a slot's history. What demand 3 says of runs of the calls themselves is proofs/Demand3.antt; the
+-- calls on a sheet are specs/OnSheet.antt.
 --
 --   book         for each slot its setting, in-use word included, and its records in order
 --   call         set-up, a take, or a call on a slot by a caller, with its arguments; read and its companion together
@@ -20,11 +19,10 @@
 --
 -- A call on a slot is one clause of `refusal`, `fault_of`, `in_book`, `next_by` and `made`, and of `in_slot` on the
 -- sheet; the rows 1 to 3 and 14 stand once, in `on_book_slot` and in `on_slot` of crate `rules`, and 17 stands before
--- them. The book's tables have the rows of document 01's in its order. Answer 4 has no row: it cannot come up. Assumes
--- nothing.
+-- them. The book's tables have their rows in the order of "Calls and answers" there. Answer 4 has no row: it cannot
+-- come up. Assumes nothing.
 use Rattle.std.specs.Prelude.{◌≡◌, ℕ, zero, suc, ◌+◌, ◌-◌, ◌/◌, ◌%◌, Bool, cond, not, ◌&&◌, ◌||◌}
-use Rattle.std.specs.Prelude.{List, [], ◌∷◌, ◌++◌, leb, ltb, eqb, length, get_or, set}
-use Rattle.std.proofs.Math.Option.{Option, none}
+use Rattle.std.specs.Prelude.{List, [], ◌∷◌, ◌++◌, leb, ltb, eqb, length, get_or, set, Option, None}
 use Rattle.rules.specs.Basics.{first_of}
 use Rattle.rules.specs.Layout.{most_records, record_length, slot_length}
 use Rattle.rules.specs.Records.{Rec, records, record_words}
@@ -76,10 +74,10 @@ refusal gives_back a = answer_reply a
 
 -- "17, which depends on the text alone": its place, where it is due
 abbrev pub fault_of : SlotCall → Option ℕ
-fault_of (edits place deleted inserted) = none
+fault_of (edits place deleted inserted) = None
 fault_of (imports size text) = fault_in text
-fault_of reads = none
-fault_of gives_back = none
+fault_of reads = None
+fault_of gives_back = None
 
 -- The book ----------------------------------------------------------------------------------------------------------
 

@@ -1,5 +1,5 @@
--- What a take, a giving back and answer 14 mean (document 02, request 07), said of the sheet's words and of no search
--- for a slot.
+-- docs/RULES.md, "Which slots are in use": what a take, a giving back and answer 14 mean, said of the sheet's words and
+-- of no search for a slot.
 --
 --   free         slot k of a sheet is the caller's, and its in-use word is 0
 --   lowest free  and no slot before it is both

@@ -6,3 +6,4 @@ pub mod OnSheet
 pub mod Meanings
 pub mod FreeSlots
 pub mod Lists
+pub mod Told

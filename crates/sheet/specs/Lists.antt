@@ -1,16 +1,11 @@
--- What the functions of set-up ask of its three lists, and answer of them. Assumes nothing.
+-- What the functions of set-up ask of its three lists, and write of them. Assumes nothing.
 use Rattle.std.specs.Prelude.{◌≡◌, ℕ, List, length}
-use Rattle.rules.specs.Refusals.{Answer, says, or_else, bad_slot, fresh_slots}
+use Rattle.rules.specs.Refusals.{fresh_slots}
 
 -- lists of clinics, measures and indents, of one length
 pub record Matched (clinics measures indents : List ℕ) : Type 0 where
   pub same_measures : length measures ≡ length clinics
   pub same_indents : length indents ≡ length clinics
-
--- answer 11 and the first slot out of limits, or 0 and the number of slots
-abbrev pub limits_answer : List ℕ → List ℕ → List ℕ → Answer
-limits_answer clinics measures indents =
-    or_else 11 (bad_slot 0 clinics measures indents (length clinics)) (says 0 (length clinics))
 
 -- the words of a sheet whose slots are all fresh
 abbrev pub all_fresh : List ℕ → List ℕ → List ℕ → List ℕ

@@ -10,8 +10,8 @@
 --   by           a call is a clinic's
 --
 -- Assumes nothing.
-use Rattle.std.specs.Prelude.{◌≡◌, ℕ, ◌+◌, ◌*◌, ◌/◌, ◌≤◌, ◌<◌, Bool, true, false, not, ◌||◌, List, ◌⊎◌, leb, length}
-use Rattle.std.proofs.Math.Option.{none}
+use Rattle.std.specs.Prelude.{◌≡◌, ℕ, ◌+◌, ◌*◌, ◌/◌, ◌≤◌, ◌<◌, ◌⊎◌, Bool, true, false, not, ◌||◌}
+use Rattle.std.specs.Prelude.{List, leb, length, None}
 use Rattle.rules.specs.Basics.{first_of}
 use Rattle.rules.specs.Layout.{slot_length}
 use Rattle.rules.specs.Records.{Rec, bad_record, record_words}
@@ -67,16 +67,16 @@ LeftAlike (call_on caller k q) a ws left right =
 pub record NoneBefore12 (ws : List ℕ) (caller k place deleted : ℕ) (inserted : List ℕ) : Type 0 where
   pub call : (entry_answer ws caller k).number ≡ 0
   pub slot : (first_of (slot_rows (slot_at ws k) place deleted inserted) (says 0 0)).number ≡ 0
-  pub records : bad_record 0 (edited (slot_at ws k) place deleted inserted) ≡ none
+  pub records : bad_record 0 (edited (slot_at ws k) place deleted inserted) ≡ None
 
 -- no answer before 10 is due on an edit: the rows 1 to 3, 14 and 4 to 7 do not apply, and each record that would result
 -- keeps its own rules, stands in the list of its class and keeps its group's rules
 pub record NoEarlier (ws : List ℕ) (caller k place deleted : ℕ) (inserted : List ℕ) : Type 0 where
   pub call : (entry_answer ws caller k).number ≡ 0
   pub slot : (first_of (slot_rows (slot_at ws k) place deleted inserted) (says 0 0)).number ≡ 0
-  pub records : bad_record 0 (edited (slot_at ws k) place deleted inserted) ≡ none
-  pub listed : not_listed 0 (edited (slot_at ws k) place deleted inserted) ≡ none
-  pub groups : group_fault (edited (slot_at ws k) place deleted inserted) ≡ none
+  pub records : bad_record 0 (edited (slot_at ws k) place deleted inserted) ≡ None
+  pub listed : not_listed 0 (edited (slot_at ws k) place deleted inserted) ≡ None
+  pub groups : group_fault (edited (slot_at ws k) place deleted inserted) ≡ None
 
 -- a slot s becomes t by an accepted edit with answer a: its records are the old ones with exactly the named stretch
 -- replaced by the inserted ones, whose words are all that was inserted; and all its words follow from them, clinic,

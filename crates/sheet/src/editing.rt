@@ -1,12 +1,31 @@
 // Edit: a stretch of a slot's records replaced.
 ghost use Rattle.std.specs.Prelude.{◌≡◌};
 ghost use Rattle.rules.specs.Refusals.{edit_says, edit as editOf};
+ghost use Rattle.rules.specs.Numbers.{edit_answer_from};
 
-use crate::entry::{Clinic, SlotNumber, entry_answer};
-use rules::layout::SLOT_WORDS;
-use slot::{EditAnswer, edit_slot, refusal};
+use crate::entry::{Clinic, SlotNumber, slot_range};
+use rules::{Edited, Refusal};
+use slot::{EditAnswer, edit_slot};
 
-// Replaces a stretch of a slot's records, composes the slot anew, and reports how many of its lines that redid.
+/// An edit, with the reason where it is refused.
+#[tactic(auto, using(crate::proofs::EntryLaws::on_refusal), unfolding(rules::specs::Refusals::edit))]
+fn replace(
+    sheet: &mut [u32],
+    caller: Clinic,
+    slot: SlotNumber,
+    place: u32,
+    deleted: u32,
+    inserted: &[u32],
+) -> Result<Edited, Refusal>
+    ensures { (edit_answer_from result, sheet.new) ≡ editOf sheet.old caller.0 slot.0 place deleted inserted.now }
+{
+    let range = slot_range(sheet, caller, slot)?;
+    // unpacked and packed anew: given on whole, a refusal above would go through memory, 11 ns in place of 6
+    let edited = edit_slot(&mut sheet[range], place, deleted, inserted)?;
+    Ok(edited)
+}
+
+/// Replaces a stretch of a slot's records, composes the slot anew, and reports how many of its lines that redid.
 pub fn edit(
     sheet: &mut [u32],
     caller: Clinic,
@@ -18,17 +37,5 @@ pub fn edit(
     ensures { (edit_says result.number result.place result.redone, sheet.new)
         ≡ editOf sheet.old caller.0 slot.0 place deleted inserted.now }
 {
-    let entry = entry_answer(sheet, caller, slot);
-    if entry.number != 0 {
-        return refusal(entry.number, entry.place);
-    }
-    let start = SLOT_WORDS * slot.0 as usize;
-    let end = start + SLOT_WORDS;
-    // lent and told anew, so that a refusal above waits for no memory
-    let answer = edit_slot(&mut sheet[start..end], place, deleted, &inserted[..]);
-    EditAnswer {
-        number: answer.number,
-        place: answer.place,
-        redone: answer.redone,
-    }
+    replace(sheet, caller, slot, place, deleted, inserted).into()
 }

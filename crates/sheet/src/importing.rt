@@ -1,70 +1,126 @@
 // Import: the records of a web leaflet in place of a slot's.
-ghost use Rattle.std.specs.Prelude.{◌≡◌, ◌≤◌, take};
+ghost use Rattle.std.specs.Prelude.{◌≡◌};
 ghost use Rattle.rules.specs.Refusals.{edit_says, as_edit, on_slot};
-ghost use Rattle.leaflet.specs.Written.{room};
+ghost use Rattle.rules.specs.Numbers.{edit_answer_from};
 ghost use Rattle.sheet.specs.Import.{replace_slot, import as importOf};
+ghost use Rattle.sheet.specs.Told.{import_number, import_place, import_answer_from};
+ghost use Rattle.sheet.specs.Told.{IsImportAnswerOf, IsNoLeaflet, IsRefusedImport};
 
-use crate::entry::{Clinic, SlotNumber, entry_answer};
-use leaflet::{ROOM, Reading, read_leaflet};
-use rules::layout::{RECORD_COUNT, SLOT_WORDS};
-use slot::{EditAnswer, edit_slot, refusal};
+use crate::entry::{Clinic, SlotNumber, slot_range};
+use leaflet::{Fault, ROOM, read_leaflet};
+use rules::layout::RECORD_COUNT;
+use rules::{Edited, Refusal};
+use slot::edit_slot;
 
-// An import's answer is a type of its own: the byte offset that 17 names may be beyond 32 bits.
+/// An import's answer, as C sees it. A type of its own: the byte offset that 17 names may be beyond 32 bits.
 #[repr(C)]
-#[derive(Clone, Copy)]
+#[derive(Clone, Copy, Debug, PartialEq, Eq)]
 pub struct ImportAnswer {
     pub number: u32,
     pub redone: u32,
     pub place: usize,
 }
 
-// Replaces all of a slot's records.
-fn replace_all(sheet: &mut [u32], caller: Clinic, slot: SlotNumber, inserted: &[u32]) -> EditAnswer
-    ensures { (edit_says result.number result.place result.redone, sheet.new)
-        ≡ on_slot as_edit sheet.old caller.0 slot.0 (λ s. replace_slot s inserted.now) }
-{
-    let entry = entry_answer(sheet, caller, slot);
-    if entry.number != 0 {
-        return refusal(entry.number, entry.place);
-    }
-    let start = SLOT_WORDS * slot.0 as usize;
-    let end = start + SLOT_WORDS;
-    let count = sheet[start + RECORD_COUNT];
-    edit_slot(&mut sheet[start..end], 0, count, inserted)
+/// Why an import is refused: by its text alone, or as the edit that it is.
+#[derive(Clone, Copy, Debug, PartialEq, Eq)]
+pub(crate) enum ImportRefusal {
+    NoLeaflet { at: usize },
+    Edit(Refusal),
 }
 
-// The same answer, as an import gives it.
-fn as_import(answer: EditAnswer) -> ImportAnswer
-    ensures { edit_says result.number result.place result.redone
-        ≡ edit_says answer.number answer.place answer.redone }
-{
-    ImportAnswer {
-        number: answer.number,
-        redone: answer.redone,
-        place: answer.place as usize,
+impl ImportRefusal {
+    /// The number that callers are told.
+    pub(crate) fn number(self) -> u32
+        ensures { result ≡ import_number self }
+    {
+        match self {
+            ImportRefusal::NoLeaflet { .. } => 17,
+            ImportRefusal::Edit(refusal) => refusal.number(),
+        }
+    }
+
+    /// The place that goes with it: of a text that is no leaflet, a byte offset.
+    pub(crate) fn place(self) -> usize
+        ensures { result ≡ import_place self }
+    {
+        match self {
+            ImportRefusal::NoLeaflet { at } => at,
+            ImportRefusal::Edit(refusal) => refusal.place() as usize,
+        }
     }
 }
 
-// Replaces them by the records of the first `n` words.
-fn replace_by(
+impl From<Fault> for ImportRefusal {
+    ghost from_gives = { IsNoLeaflet };
+
+    fn from(fault: Fault) -> ImportRefusal {
+        ImportRefusal::NoLeaflet { at: fault.at }
+    }
+}
+
+impl From<Refusal> for ImportRefusal {
+    ghost from_gives = { IsRefusedImport };
+
+    fn from(refusal: Refusal) -> ImportRefusal {
+        ImportRefusal::Edit(refusal)
+    }
+}
+
+impl From<Result<Edited, ImportRefusal>> for ImportAnswer {
+    ghost from_gives = { IsImportAnswerOf };
+
+    fn from(outcome: Result<Edited, ImportRefusal>) -> ImportAnswer {
+        match outcome {
+            Ok(edited) => ImportAnswer {
+                number: 0,
+                redone: edited.redone,
+                place: edited.lines as usize,
+            },
+            Err(refusal) => ImportAnswer {
+                number: refusal.number(),
+                redone: 0,
+                place: refusal.place(),
+            },
+        }
+    }
+}
+
+/// Replaces all of a slot's records.
+#[tactic(auto, using(crate::proofs::EntryLaws::on_refusal))]
+fn replace_all(
     sheet: &mut [u32],
     caller: Clinic,
     slot: SlotNumber,
-    words: &[u32; ROOM],
-    n: usize,
-) -> ImportAnswer
-    requires { n ≤ room }
-    ensures { (edit_says result.number result.place result.redone, sheet.new)
-        ≡ on_slot as_edit sheet.old caller.0 slot.0
-        (λ s. replace_slot s (take n words.now)) }
+    inserted: &[u32],
+) -> Result<Edited, Refusal>
+    ensures { (edit_answer_from result, sheet.new)
+        ≡ on_slot as_edit sheet.old caller.0 slot.0 (λ s. replace_slot s inserted.now) }
 {
-    // lent as a slice, so that the proof knows its length
-    let all = &words[..];
-    as_import(replace_all(sheet, caller, slot, &all[0..n]))
+    let range = slot_range(sheet, caller, slot)?;
+    let count = sheet[range.start + RECORD_COUNT];
+    // unpacked and packed anew, as in `editing::replace`
+    let edited = edit_slot(&mut sheet[range], 0, count, inserted)?;
+    Ok(edited)
 }
 
-// Replaces all of a slot's records by those of a leaflet, composes the slot anew, and reports how many of its lines
-// that redid. The text is judged before anything else is looked at.
+/// Replaces them by those of a leaflet.
+fn replace_by_text(
+    sheet: &mut [u32],
+    caller: Clinic,
+    slot: SlotNumber,
+    size: u32,
+    text: &[u8],
+) -> Result<Edited, ImportRefusal>
+    ensures { (import_answer_from result, sheet.new) ≡ importOf sheet.old caller.0 slot.0 size text.now }
+{
+    let mut words = [0u32; ROOM];
+    let n = read_leaflet(text, size, &mut words)?;
+    let edited = replace_all(sheet, caller, slot, &words[..n])?;
+    Ok(edited)
+}
+
+/// Replaces all of a slot's records by those of a leaflet, composes the slot anew, and reports how many of its lines
+/// that redid. The text is judged before anything else is looked at.
 pub fn import(
     sheet: &mut [u32],
     caller: Clinic,
@@ -75,13 +131,5 @@ pub fn import(
     ensures { (edit_says result.number result.place result.redone, sheet.new)
         ≡ importOf sheet.old caller.0 slot.0 size text.now }
 {
-    let mut words = [0u32; ROOM];
-    match read_leaflet(text, size, &mut words) {
-        Reading::Fault(place) => ImportAnswer {
-            number: 17,
-            redone: 0,
-            place: place,
-        },
-        Reading::Words(n) => replace_by(sheet, caller, slot, &words, n),
-    }
+    replace_by_text(sheet, caller, slot, size, text).into()
 }

@@ -1,71 +1,76 @@
-// Slots taken and given back: document 02, request 07.
-ghost use Rattle.std.specs.Prelude.{◌≡◌, ◌*◌, ◌≤◌, length};
+// Slots taken and given back.
+ghost use Rattle.std.specs.Prelude.{◌≡◌, ◌*◌, ◌≤◌, MatchOption, None, Some, length};
 ghost use Rattle.rules.specs.Layout.{most_slots, slot_length};
 ghost use Rattle.rules.specs.Refusals.{says};
-ghost use Rattle.rules.specs.Pool.{granted, lowest_free, own_slots, take_answer, taking, giving_back};
+ghost use Rattle.rules.specs.Pool.{lowest_free, own_slots, take_answer, taking, giving_back};
+ghost use Rattle.rules.specs.Numbers.{answer_from};
 
-use crate::entry::{Clinic, SlotNumber, entry_answer, slot_count};
+use crate::entry::{Clinic, SlotNumber, slot_count, slot_range};
 use rules::layout::{IN_USE, SLOT_WORDS};
-use rules::{Answer, says};
+use rules::{Answer, Refusal};
 use slot::give_back_slot;
 
-// The number of the caller's lowest-numbered slot whose in-use word is 0, or 13. Of a slot it looks at the clinic and,
-// where that is the caller, at the in-use word.
-fn lowest_free(sheet: &[u32], caller: u32, slots: usize) -> Answer
+/// The caller's lowest-numbered slot whose in-use word is 0. Of a slot it looks at the clinic and, where that is the
+/// caller, at the in-use word.
+#[tactic(auto, using(crate::proofs::TakeLaws::slots_tested))]
+fn lowest_free(sheet: &[u32], caller: Clinic, slots: usize) -> Option<SlotNumber>
     requires { (length sheet.now ≡ slot_length * slots) × (slots ≤ most_slots) }
-    ensures { says result.number result.place
-        ≡ granted (lowest_free (own_slots sheet.now caller)) }
+    ensures { MatchOption result (lowest_free (own_slots sheet.now caller.0) ≡ None)
+        (λ k. lowest_free (own_slots sheet.now caller.0) ≡ Some k.0) }
 {
-    let mut k = 0;
-    while k < slots {
+    // by index: with `chunks_exact` and `position` the proof that the slot found is the lowest did not close
+    for k in 0..slots {
         let head = SLOT_WORDS * k;
-        if sheet[head] == caller {
-            if sheet[head + IN_USE] == 0 {
-                return says(0, k as u32);
-            }
+        if sheet[head] == caller.0 && sheet[head + IN_USE] == 0 {
+            return Some(SlotNumber(k as u32));
         }
-        k += 1;
     }
-    says(13, 0)
+    None
 }
 
-// What a take answers.
-fn take_answer(sheet: &[u32], caller: Clinic) -> Answer
-    ensures { says result.number result.place ≡ take_answer (length sheet.now) caller.0
-        (own_slots sheet.now caller.0) }
+/// The number of the slot that a take gives.
+#[tactic(auto, using(crate::proofs::TakeLaws::take_rows_tested))]
+fn slot_to_take(sheet: &[u32], caller: Clinic) -> Result<u32, Refusal>
+    ensures { answer_from result ≡ take_answer (length sheet.now) caller.0 (own_slots sheet.now caller.0) }
 {
-    let slots = slot_count(sheet.len());
-    if slots == 0 {
-        return says(1, 0);
-    }
+    let slots = slot_count(sheet.len()).ok_or(Refusal::NoSheet)?;
     if caller.0 == 0 {
-        return says(3, 0);
+        return Err(Refusal::NotTheCallers);
     }
-    lowest_free(sheet, caller.0, slots)
+    let slot = lowest_free(sheet, caller, slots).ok_or(Refusal::NoneFree)?;
+    Ok(slot.0)
 }
 
-// Takes the caller's lowest-numbered slot that is not in use, and gives its number as place.
+/// Takes that slot, and gives its number.
+#[tactic(auto, using(crate::proofs::TakenSlots::takes))]
+fn take_slot(sheet: &mut [u32], caller: Clinic) -> Result<u32, Refusal>
+    ensures { (answer_from result, sheet.new) ≡ taking sheet.old caller.0 }
+{
+    let slot = slot_to_take(sheet, caller)?;
+    sheet[SLOT_WORDS * slot as usize + IN_USE] = 1;
+    Ok(slot)
+}
+
+/// Takes the caller's lowest-numbered slot that is not in use, and gives its number as place.
 pub fn take(sheet: &mut [u32], caller: Clinic) -> Answer
     ensures { (says result.number result.place, sheet.new) ≡ taking sheet.old caller.0 }
 {
-    let answer = take_answer(sheet, caller);
-    if answer.number == 0 {
-        let head = SLOT_WORDS * answer.place as usize;
-        sheet[head + IN_USE] = 1;
-    }
-    answer
+    take_slot(sheet, caller).into()
 }
 
-// Gives a slot back: all but clinic, measure and indent becomes 0.
+/// A giving back, with the reason where it is refused.
+#[tactic(auto, using(crate::proofs::EntryLaws::on_refusal), unfolding(rules::specs::Pool::giving_back))]
+fn give_slot_back(sheet: &mut [u32], caller: Clinic, slot: SlotNumber) -> Result<u32, Refusal>
+    ensures { (answer_from result, sheet.new) ≡ giving_back sheet.old caller.0 slot.0 }
+{
+    let range = slot_range(sheet, caller, slot)?;
+    give_back_slot(&mut sheet[range])
+}
+
+/// Gives a slot back: all but clinic, measure and indent becomes 0.
 pub fn give_back(sheet: &mut [u32], caller: Clinic, slot: SlotNumber) -> Answer
     ensures { (says result.number result.place, sheet.new)
         ≡ giving_back sheet.old caller.0 slot.0 }
 {
-    let entry = entry_answer(sheet, caller, slot);
-    if entry.number != 0 {
-        return entry;
-    }
-    let start = SLOT_WORDS * slot.0 as usize;
-    let end = start + SLOT_WORDS;
-    give_back_slot(&mut sheet[start..end])
+    give_slot_back(sheet, caller, slot).into()
 }

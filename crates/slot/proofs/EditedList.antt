@@ -1,24 +1,26 @@
--- The record list of an edit: whole records, zeros past them, and the old records with the named stretch replaced.
--- Assumes nothing.
-use mathlib.Core.Path.{◌≡◌, ap, ◌∙◌}
-use mathlib.Core.List.{List, ◌++◌}
-use mathlib.Core.Bool.{true}
-use Prim.Native.Nat.{ℕ, ◌+◌, ◌-◌, ◌*◌, ◌/◌, ◌%◌, ◌≤◌}
-use native.Mathlib.Omega.{arith}
-use lib.ListN.{length, take, drop, length-append, get_or-append}
-use lib.Seq.{take_at, drop_at, length-take-le, get_or-take, get_or-drop, get_or-append-add}
+-- The record list of an edit: whole records, the old ones with the named stretch replaced, and the metrics that it has
+-- from them. Assumes nothing.
+use Rattle.std.proofs.Common.{◌≡◌, refl, ap, ◌∙◌, List, ◌++◌, ℕ, ◌+◌, ◌-◌, ◌*◌, ◌/◌, ◌%◌, ◌≤◌, arith, length}
+use Rattle.std.proofs.Common.{take, drop, take_at, length-take-le, get_or-take, get_or-drop, get_or-append-add}
+use Rattle.std.proofs.Math.ListN.{get_or-append}
 use Rattle.rules.specs.Layout.{most_records, records_length, slot_length}
 use Rattle.rules.specs.Basics.{zeros}
 use Rattle.rules.specs.Records.{records}
-use Rattle.rules.specs.Sheet.{count_of, measure_of, indent_of, limits_ok}
+use Rattle.rules.specs.Sheet.{count_of}
 use Rattle.rules.specs.Refusals.{edited}
 use Rattle.compose.specs.Paragraph.{record_count, paragraph}
-use Rattle.compose.proofs.AfterEdit.{Edit}
-use Rattle.slot.specs.Slot.{spliced, spliced_into, stored_words, Replaceable}
-use Rattle.slot.proofs.StoredRecords.{old_room}
+use Rattle.compose.specs.Scan.{FilledFrom, Front}
+use Rattle.compose.specs.Composed.{Kept}
+use Rattle.compose.specs.Kept.{KeptFrom}
+use Rattle.compose.specs.declared.metrics.Metrics.{Metrics}
+use Rattle.compose.proofs.AfterEdit.{Edit, metrics_kept}
+use Rattle.compose.proofs.BeforeEdit.{front_kept}
+use Rattle.slot.specs.declared.edit.Stored.{Stored}
+use Rattle.slot.specs.declared.stretch.Stretch.{Stretch}
+use Rattle.slot.specs.Slot.{spliced, spliced_into, stored_words, IsStretch, StoredLines}
+use Rattle.slot.proofs.StoredRecords.{old_room, sound_count}
 use Rattle.slot.proofs.SplicedRecords.{spliced_records, length_spliced}
 use Rattle.rules.proofs.RecordWords.{length_records}
-use Rattle.rules.proofs.Zeros.{length_zeros, drop_zeros}
 
 -- what c records at the front of some words have in common with those made of them
 module _ (w ins : List ℕ) (c p d k : ℕ) (room : 6 * c ≤ length w) (within : p + d ≤ c) (inserted : length ins ≡ 6 * k)
@@ -59,66 +61,66 @@ module _ (w ins : List ℕ) (c p d k : ℕ) (room : 6 * c ≤ length w) (within 
           new = omega arith;
         }
 
-module _ (s : List ℕ) (p d : ℕ) (ins : List ℕ) (len : length s ≡ slot_length) (few : count_of s ≤ most_records)
-    (within : p + d ≤ count_of s)
-    (whole : length ins % 6 ≡ 0)
-    (room : (count_of s - d) * 6 + length ins ≤ records_length) where
-  abbrev total : ℕ
-  total = (count_of s - d) * 6 + length ins
+-- the list that the program makes: the new records' words at its front
+pub record NewList (s : List ℕ) (p d : ℕ) (ins : List ℕ) (t : Stretch) (new : List ℕ) : Type 0 where
+  pub records : paragraph new ≡ edited s p d ins
+  pub whole : length new % 6 ≡ 0
+  pub edit : Edit (stored_words s) new t.place (t.place + t.deleted) (t.place + t.inserted)
+  pub new_few : length (edited s p d ins) ≤ most_records
+
+-- in an edit under way: the slot's lines are told, and the stretch is tested
+module _ {s starts ins : List ℕ} {stored : Stored} {p d : ℕ} {t : Stretch} (len : length s ≡ slot_length)
+    (lines : StoredLines s starts stored) (h : IsStretch s p d ins t) where
+  few : count_of s ≤ most_records
+  few = sound_count s lines.sound_is
 
   abbrev words : List ℕ
   words = spliced (take (6 * count_of s) (drop 8 s)) (6 * p) (6 * (p + d)) ins
 
-  length_words : length words ≡ total
+  length_words : length words ≡ 6 * (p + (t.inserted + (count_of s - (p + d))))
   length_words =
-      length_spliced (drop 8 s) ins (count_of s) p d (length ins / 6) (old_room s len few) within (omega arith)
-      ∙ omega arith
+      length_spliced (drop 8 s) ins (count_of s) p d t.inserted (old_room s len few) h.within h.inserted_is
 
   records_words : paragraph words ≡ edited s p d ins
   records_words =
-      let n : record_count words ≡ p + (length ins / 6 + (count_of s - (p + d))) = omega (arith, length_words) in
+      let n : record_count words ≡ p + (t.inserted + (count_of s - (p + d))) = omega (arith, length_words) in
+      let k : length ins / 6 ≡ t.inserted = omega (arith, h.inserted_is) in
       ap (λ m. records words 0 m) n
-      ∙ spliced_records (drop 8 s) ins (count_of s) p d (length ins / 6) (old_room s len few) within (omega arith)
+      ∙ rw k (spliced_records (drop 8 s) ins (count_of s) p d t.inserted (old_room s len few) h.within h.inserted_is)
 
-  -- the list that the program makes: those words, and zeros
-  pub record NewList (list : List ℕ) : Type 0 where
-    pub replaceable : limits_ok (measure_of s) (indent_of s) ≡ true → Replaceable s list total
-    pub records : paragraph (take total list) ≡ edited s p d ins
-    pub edit : Edit (stored_words s) (take total list) p (p + d) (p + length ins / 6)
-    pub new_few : length (edited s p d ins) ≤ most_records
+  -- then the old records are spliced into a list of zeros
+  module _ {list old : List ℕ} (o : old ≡ stored_words s)
+      (e : list ≡ spliced_into (zeros records_length) old (6 * t.place) (6 * (t.place + t.deleted)) ins) where
+    abbrev new : List ℕ
+    new = take (length old - 6 * t.deleted + length ins) list
 
-  pub new_list : (list : List ℕ) →
-      list ≡ spliced_into (zeros records_length) (stored_words s) (p * 6) ((p + d) * 6) ins →
-      NewList list
-  new_list list e =
-      let a : 8 + 6 * count_of s - 8 ≡ 6 * count_of s = omega arith in
-      let b : p * 6 ≡ 6 * p = omega arith in
-      let c : (p + d) * 6 ≡ 6 * (p + d) = omega arith in
-      let l = length-take-le (6 * count_of s) (drop 8 s) (old_room s len few) in
-      let n : 6 * p + length ins + (length (take (6 * count_of s) (drop 8 s)) - 6 * (p + d)) ≡ total = omega arith in
-      let f : list ≡ words ++ drop total (zeros records_length) = rw (a, b, c, n) at e in
-      let z : drop total (zeros records_length) ≡ zeros (records_length - total) =
-      drop_zeros records_length total room in
-      let t : take total list ≡ words =
-      ap (λ w. take total w) f ∙ take_at words (drop total (zeros records_length)) total length_words in
-      record {
-        replaceable =
-            λ q.
-            record {
-              slot = len;
-              limits = q;
-              full =
-                  ap length f ∙ length-append words (drop total (zeros records_length))
-                  ∙ omega (arith, length_words, ap length z, length_zeros (records_length - total));
-              room = room;
-              whole = omega arith;
-              rest = ap (λ w. drop total w) f ∙ drop_at words (drop total (zeros records_length)) total length_words
-                  ∙ z;
-            };
-        records = rw t records_words;
-        edit =
-            rw (a, t)
-            (spliced_edit (drop 8 s) ins (count_of s) p d (length ins / 6) (old_room s len few) within (omega arith)
-            (omega arith));
-        new_few = rw (← records_words) (omega (arith, length_records words 0 (record_count words), length_words));
-      }
+    pub new_list : NewList s p d ins t new
+    new_list =
+        let a : 8 + 6 * count_of s - 8 ≡ 6 * count_of s = omega arith in
+        let l = length-take-le (6 * count_of s) (drop 8 s) (old_room s len few) in
+        let n : length (take (6 * count_of s) (drop 8 s)) - 6 * d + length ins ≡ length words =
+        omega (arith, length_words, l, h.within, h.inserted_is) in
+        let r : new ≡ words =
+        rw (o, h.deleted_is, a, n)
+        (ap (λ w. take (length words) w) (rw (o, h.place_is, h.deleted_is, a) at e)
+        ∙ take_at words _ (length words) refl) in
+        record {
+          records = rw r records_words;
+          whole = rw r (omega (arith, length_words));
+          edit =
+              rw (r, h.place_is, h.deleted_is, a)
+              (spliced_edit (drop 8 s) ins (count_of s) p d t.inserted (old_room s len few) h.within h.inserted_is
+              (omega (arith, h.within, h.room)));
+          new_few =
+              rw (← records_words)
+              (omega (arith, length_records words 0 (record_count words), length_words, h.within, h.room));
+        }
+
+    -- and the metrics that hold on are moved to their new records
+    module _ {ms ms' : Metrics} {kept : ℕ} (k : Kept (stored_words s) ms)
+        (q : KeptFrom old (t.place + t.deleted) (t.place + t.inserted) ms ms' kept) where
+      pub new_filled : FilledFrom new t.place kept ms'
+      new_filled = metrics_kept k new_list.edit (rw o at q)
+
+      pub new_front : Front new t.place (t.place - 1) ms'
+      new_front = front_kept k new_list.edit (rw o at q)

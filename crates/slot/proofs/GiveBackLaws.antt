@@ -1,11 +1,6 @@
 -- A giving back's outcome. Assumes nothing.
-use mathlib.Core.Path.{◌≡◌, ap, ◌∙◌}
-use mathlib.Core.List.{List, [], ◌∷◌, append-nil}
-use mathlib.Core.Bool.{true, false}
-use Prim.Native.Nat.{ℕ, ◌-◌}
-use native.Mathlib.Omega.{arith}
-use lib.ListN.{length, take, drop, length-drop, drop_of_length-le}
-use lib.Seq.{length-take-le}
+use Rattle.std.proofs.Common.{◌≡◌, ap, ◌∙◌, List, [], ◌∷◌, append-nil, true, false, ℕ, ◌-◌, arith, length, take, drop}
+use Rattle.std.proofs.Common.{length-drop, drop_of_length-le, length-take-le}
 use borrow.Rule.Slice.PartMut.{put_mid}
 use Rattle.rules.specs.Basics.{zeros}
 use Rattle.rules.specs.Layout.{slot_length, record_count_at}

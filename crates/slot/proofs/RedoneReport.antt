@@ -1,32 +1,28 @@
 -- The count of the lines that an edit composes anew, as steps: what the search for r has passed. Assumes nothing.
-use mathlib.Core.Path.{◌≡◌}
-use Prim.Native.Nat.{ℕ, suc, ◌+◌, ◌*◌, ◌-◌, ◌≤◌, ◌<◌}
-use native.Mathlib.Omega.{arith}
-use mathlib.Core.Bool.{false}
-use mathlib.Core.List.{List}
-use mathlib.Core.Logic.{inl, inr}
-use lib.ListN.{length, get_or}
-use borrow.Author.Count.{below_more}
+use Rattle.std.proofs.Common.{◌≡◌, ℕ, suc, ◌+◌, ◌*◌, ◌-◌, ◌/◌, ◌≤◌, ◌<◌, arith, false, List, inl, inr, length, get_or}
+use Rattle.std.proofs.Common.{below_more}
 use Rattle.rules.specs.Adjustment.{Line}
 use Rattle.rules.specs.Redone.{start, resumes, report, edit_line}
 use Rattle.rules.specs.Stable.{Resumes}
-use Rattle.rules.proofs.Decisions.{ordered}
+use Rattle.std.proofs.lemmas.Bool.{cases_lt}
 use Rattle.rules.proofs.EditLine.{starts_ascend, edit_line_last}
 use Rattle.rules.proofs.Resuming.{not_resumed, none_found, found}
+use Rattle.rules.specs.Layout.{line_length}
+use Rattle.slot.specs.declared.stretch.Stretch.{Stretch}
 use Rattle.slot.specs.Redone.{Starts, LineWords, FirstFrom, FirstRedone, Reported}
 
 -- f -----------------------------------------------------------------------------------------------------------------
 
 -- the line after the one that holds the place is the first, from line 1 on, that starts after it
-pub redone_from : (starts : List ℕ) (n place next f : ℕ) → FirstFrom starts n 1 (place + 1) next → f ≡ next - 2 →
-    FirstRedone starts n place f
+pub redone_from : (starts : List ℕ) (place next f : ℕ) → FirstFrom starts 1 (place + 1) next → f ≡ next - 2 →
+    FirstRedone starts place f
 unfolding start edit_line
-redone_from starts n place next f h e old s =
-    elim (ordered 0 n) [
+redone_from starts place next f h e old s =
+    elim (cases_lt 0 (length starts)) [
       | inl some ↦
           let k = next - 1 in
           let j : suc k ≡ next = omega (arith, h.low) in
-          let from : start k old ≤ place = elim (ordered 0 k) [
+          let from : start k old ≤ place = elim (cases_lt 0 k) [
             | inl g ↦ omega (arith, h.before k (omega arith) (omega arith), s.first k (omega (arith, h.high)))
             | inr g ↦ let z : k ≡ 0 = omega arith in rw (z, start) (omega arith)
           ] in
@@ -43,24 +39,39 @@ pub record Passed (place deleted inserted : ℕ) (old new : List Line) (j k : �
   pub none : (i : ℕ) → i < j → resumes place deleted inserted old i (start i new) ≡ false
   pub early : j < length new → (i : ℕ) → i < k → 1 ≤ i → start i old + inserted < start j new + deleted
 
-module _ (starts : List ℕ) (n : ℕ) (words : List ℕ) (count place deleted inserted : ℕ) where
+module _ (starts words : List ℕ) (t : Stretch) where
+  abbrev n : ℕ
+  n = length starts
+
+  abbrev count : ℕ
+  count = length words / line_length
+
+  abbrev place : ℕ
+  place = t.place
+
+  abbrev deleted : ℕ
+  deleted = t.deleted
+
+  abbrev inserted : ℕ
+  inserted = t.inserted
+
   -- the search stands at new line j and old line k; this holds of whatever lines start so
   pub record Searching (f j k : ℕ) : Type 0 where
-    pub first : FirstRedone starts n place f
+    pub first : FirstRedone starts place f
     pub low : f ≤ j
     pub high : j - f ≤ count - f
     pub old_low : 1 ≤ k
     pub passed : (old new : List Line) → Starts starts n old → LineWords words count new →
         Passed place deleted inserted old new j k
 
-  pub search_start : (f : ℕ) → FirstRedone starts n place f → Searching f f 1
+  pub search_start : (f : ℕ) → FirstRedone starts place f → Searching f f 1
   search_start f h =
       record {
         first = h;
         low = omega arith;
         high = omega arith;
         old_low = omega arith;
-        passed = λ old new s t.
+        passed = λ old new s v.
             record {
               none = λ i b. not_resumed place deleted inserted old new i (start i new)
                   (λ r. omega (arith, r.from_f, h old s));
@@ -70,7 +81,7 @@ module _ (starts : List ℕ) (n : ℕ) (words : List ℕ) (count place deleted i
 
   module _ {f j k : ℕ} (s : Searching f j k) where
     -- past the last new line
-    pub search_end : count ≤ j → Reported starts n words count place deleted inserted (j - f)
+    pub search_end : count ≤ j → Reported starts words t (count - f)
     unfolding report
     search_end h old new o w =
         let p = s.passed old new o w in
@@ -108,10 +119,10 @@ module _ (starts : List ℕ) (n : ℕ) (words : List ℕ) (count place deleted i
           }
 
       module _ (past : place + inserted ≤ get_or words (3 * j) 0) {l : ℕ}
-          (from : FirstFrom starts n k (get_or words (3 * j) 0 - inserted + deleted) l) where
+          (from : FirstFrom starts k (get_or words (3 * j) 0 - inserted + deleted) l) where
         -- an old line starts with the same record
         pub search_found : 1 ≤ j → l < n → get_or starts l 0 ≡ get_or words (3 * j) 0 - inserted + deleted →
-            Reported starts n words count place deleted inserted (j - f)
+            Reported starts words t (j - f)
         unfolding report
         search_found one there same old new o w =
             let p = s.passed old new o w in
@@ -141,10 +152,10 @@ module _ (starts : List ℕ) (n : ℕ) (words : List ℕ) (count place deleted i
               let e = w.first j here in
               let q = r.again in
               let t = o.first q (omega (arith, r.there, o.count)) in
-              elim (ordered q k) [
+              elim (cases_lt q k) [
                 | inl g ↦ omega (arith, p.early (omega (arith, w.count)) q g r.numbered, r.same)
                 | inr g ↦
-                    elim (ordered q l) [
+                    elim (cases_lt q l) [
                       | inl c ↦ omega (arith, from.before q c g, r.same, r.past)
                       | inr c ↦
                           let d : l < n = omega (arith, r.there, o.count) in
@@ -169,7 +180,7 @@ module _ (starts : List ℕ) (n : ℕ) (words : List ℕ) (count place deleted i
                           (not_resumed place deleted inserted old new j (start j new) (none_again old new o w));
                       early = λ b i c d.
                           let a = starts_ascend new j (j + 1) (omega arith) (omega arith) in
-                          elim (ordered i k) [
+                          elim (cases_lt i k) [
                             | inl g ↦ omega (arith, p.early (omega arith) i g d)
                             | inr g ↦ omega (arith, from.before i c g, o.first i (omega (arith, from.high)))
                           ];

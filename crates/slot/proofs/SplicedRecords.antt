@@ -1,11 +1,6 @@
 -- The spliced record list: its records are the old ones with the named stretch replaced. Assumes nothing.
-use mathlib.Core.Path.{◌≡◌, sym, ap, ◌∙◌}
-use mathlib.Core.List.{List, ◌++◌}
-use Prim.Native.Nat.{ℕ, ◌+◌, ◌-◌, ◌*◌, ◌≤◌}
-use native.Mathlib.Omega.{arith}
-use native.Mathlib.Nat.{zero-add}
-use lib.ListN.{length, take, drop, length-append, length-drop}
-use lib.Seq.{get_or-take, length-take-le}
+use Rattle.std.proofs.Common.{◌≡◌, sym, ap, ◌∙◌, List, ◌++◌, ℕ, ◌+◌, ◌-◌, ◌*◌, ◌≤◌, arith, zero-add, length, take}
+use Rattle.std.proofs.Common.{drop, length-append, length-drop, get_or-take, length-take-le}
 use Rattle.rules.specs.Records.{records}
 use Rattle.rules.specs.Refusals.{splice}
 use Rattle.rules.proofs.RecordWords.{records_alike, records_take, records_drop, take_records}

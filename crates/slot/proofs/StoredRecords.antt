@@ -1,50 +1,31 @@
 -- A slot's stored records, and whether they are sound. Assumes nothing.
-use mathlib.Core.Path.{◌≡◌, refl, ap, ◌∙◌}
-use mathlib.Core.List.{List}
-use mathlib.Core.Bool.{Bool, true, false, cond, ◌&&◌}
-use Prim.Native.Nat.{ℕ, ◌+◌, ◌-◌, ◌*◌, ◌≤◌, ◌<◌}
-use native.Mathlib.Omega.{arith}
-use lib.Dec.{leb, ltb, eqb}
-use lib.ListN.{length, take, drop, get_or, length-drop}
-use lib.Seq.{length-take-le}
-use borrow.Author.Tests.{leb-true, ltb-true, le-leb, lt-leb, ne_eqb}
+use Rattle.std.proofs.Common.{◌≡◌, ap, ◌∙◌, List, Bool, true, false, ◌&&◌, ℕ, ◌+◌, ◌-◌, ◌*◌, ◌≤◌, ◌<◌, arith, leb}
+use Rattle.std.proofs.Common.{eqb, length, take, drop, get_or, length-drop, length-take-le, leb-true, le-leb, ne_eqb}
+use borrow.Author.Tests.{lt-leb}
 use Rattle.rules.specs.Layout.{most_records, slot_length}
-use Rattle.rules.specs.Basics.{within}
 use Rattle.rules.specs.Records.{records}
 use Rattle.rules.specs.Sheet.{measure_of, indent_of, count_of, in_use_of, records_of, limits_ok}
-use Rattle.rules.specs.Refusals.{says, judged, sound}
+use Rattle.rules.specs.Refusals.{Answer, says, judged, sound}
 use Rattle.rules.specs.Redone.{start}
 use Rattle.rules.specs.Stable.{ruled_lines}
-use Rattle.rules.proofs.Bounds.{within_high}
 use Rattle.rules.proofs.RecordLimits.{and_left, and_right}
-use Rattle.rules.proofs.RecordWords.{records_take}
+use Rattle.rules.proofs.RecordWords.{records_take, length_records}
 use Rattle.rules.proofs.Judged.{line_count}
+use Rattle.rules.proofs.WordCounts.{composed_few}
 use Rattle.compose.specs.Paragraph.{record_count, paragraph}
-use Rattle.compose.specs.Composed.{Fitting}
-use Rattle.slot.specs.Slot.{stored_words, StoredLines}
-
--- measure and indent within limits
-pub limits_measure : (m x : ℕ) → limits_ok m x ≡ true → m ≤ 1000000
-limits_measure m x e = within_high 8 1000000 m (and_left (within 8 1000000 m) (ltb x m) e)
-
-pub limits_indent : (m x : ℕ) → limits_ok m x ≡ true → x < m
-limits_indent m x e = ltb-true x m (and_right (within 8 1000000 m) (ltb x m) e)
+use Rattle.rules.specs.Numbers.{number_of, refused_with}
+use Rattle.rules.specs.declared.refusal.Refusal.{Refusal}
+use Rattle.rules.specs.declared.measure.Measure.{Measure}
+use Rattle.compose.specs.Composed.{outcome, Starts}
+use Rattle.slot.proofs.RefusalNumbers.{number_not_0}
+use Rattle.slot.specs.Slot.{stored_words, InMeasure, StoredLines}
 
 -- n records at the front of some words, as a paragraph
-pub front_size : (w : List ℕ) (n : ℕ) → 6 * n ≤ length w → record_count (take (6 * n) w) ≡ n
+front_size : (w : List ℕ) (n : ℕ) → 6 * n ≤ length w → record_count (take (6 * n) w) ≡ n
 front_size w n h = omega (arith, length-take-le (6 * n) w h)
 
-pub front_paragraph : (w : List ℕ) (n : ℕ) → 6 * n ≤ length w → paragraph (take (6 * n) w) ≡ records w 0 n
+front_paragraph : (w : List ℕ) (n : ℕ) → 6 * n ≤ length w → paragraph (take (6 * n) w) ≡ records w 0 n
 front_paragraph w n h = ap (λ k. records (take (6 * n) w) 0 k) (front_size w n h) ∙ records_take w n
-
-pub fitting : (ws : List ℕ) (m x : ℕ) → record_count ws ≤ most_records → limits_ok m x ≡ true → Fitting ws m x
-fitting ws m x h e =
-    record {
-      few = h;
-      measure = limits_measure m x e;
-      indent = omega
-          (arith, limits_measure m x e, limits_indent m x e);
-    }
 
 -- the part of a slot that its records are
 module _ (s : List ℕ) (len : length s ≡ slot_length) (few : count_of s ≤ most_records) where
@@ -54,14 +35,18 @@ module _ (s : List ℕ) (len : length s ≡ slot_length) (few : count_of s ≤ m
   part : stored_words s ≡ take (6 * count_of s) (drop 8 s)
   part = let e : 8 + 6 * count_of s - 8 ≡ 6 * count_of s = omega arith in rw e
 
-  pub stored_count : record_count (stored_words s) ≡ count_of s
-  stored_count = rw part (front_size (drop 8 s) (count_of s) old_room)
-
-  pub stored_size : record_count (stored_words s) ≤ most_records
-  stored_size = omega (arith, stored_count)
-
   pub stored_paragraph : paragraph (stored_words s) ≡ records_of s
   stored_paragraph = ap (λ ws. paragraph ws) part ∙ front_paragraph (drop 8 s) (count_of s) old_room
+
+  -- what is answered of them
+  module _ (m : Measure) (e : InMeasure s m) where
+    pub stored_outcome : {a : Answer} → outcome (stored_words s) m ≡ a →
+        judged (measure_of s) (indent_of s) (records_of s) ≡ a
+    stored_outcome h = rw (← e.0, ← e.1, ← stored_paragraph) h
+
+    pub stored_starts : (starts : List ℕ) {lines : ℕ} → Starts (stored_words s) m starts lines →
+        (j : ℕ) → j < lines → get_or starts j 0 ≡ start j (ruled_lines s)
+    stored_starts starts h j l = rw (← e.0, ← e.1, ← stored_paragraph) (h j l)
 
 -- answer 4, test by test
 module _ (s : List ℕ) where
@@ -96,9 +81,6 @@ module _ (s : List ℕ) where
   unfolding sound
   limits_and_few e = and_left (limits && few) used (and_left (limits && few && used) _ e)
 
-  pub sound_limits : sound s ≡ true → limits ≡ true
-  sound_limits e = and_left limits few (limits_and_few e)
-
   pub sound_count : sound s ≡ true → count_of s ≤ most_records
   sound_count e = leb-true (count_of s) most_records (and_right limits few (limits_and_few e))
 
@@ -106,36 +88,30 @@ module _ (s : List ℕ) where
   unfolding sound
   sound_in_use e = leb-true (in_use_of s) 1 (and_right (limits && few) used (and_left (limits && few && used) _ e))
 
--- what is told of a slot's lines
-pub stored_damaged : {K : Type 0} (s starts : List ℕ) (number place : ℕ) → sound s ≡ false →
-    (number ≡ 4) × (place ≡ 0) → StoredLines s starts number place × (number ≡ 0 → K)
-stored_damaged s starts number place a e = (
-  record { answer = rw a e.0; lines = λ z. absurd (omega (arith, e.0)) },
-  λ z. absurd (omega (arith, e.0)),
-)
+-- the records of a slot whose numbers are within limits tell whether it is sound
+module _ (s : List ℕ) (len : length s ≡ slot_length) (limit : limits s ≡ true) (few : count_of s ≤ most_records)
+    (used : in_use_of s ≤ 1)
+    (m : Measure)
+    (e : InMeasure s m) where
+  told : sound s ≡ eqb (judged (measure_of s) (indent_of s) (records_of s)).number 0
+  told = records_tell s limit few used
 
-pub refused_sound : (s : List ℕ) (number place : ℕ) →
-    sound s ≡ eqb (judged (measure_of s) (indent_of s) (records_of s)).number 0 →
-    judged (measure_of s) (indent_of s) (records_of s) ≡ says number place → (number ≡ 0 → ⊥) → sound s ≡ false
-refused_sound s number place t a z = t ∙ rw a (ne_eqb number 0 z)
+  -- any refusal of them is answer 4
+  pub told_damaged : {ws : List ℕ} → ws ≡ stored_words s → (x : Refusal) → outcome ws m ≡ refused_with x →
+      sound s ≡ false
+  told_damaged w x a =
+      let j = stored_outcome s len few m e (rw w at a) in told ∙ rw j (ne_eqb (number_of x) 0 (number_not_0 x))
 
-pub stored_sound : (s starts : List ℕ) (number place : ℕ) →
-    sound s ≡ eqb (judged (measure_of s) (indent_of s) (records_of s)).number 0 →
-    judged (measure_of s) (indent_of s) (records_of s) ≡ says number place → number ≡ 0 →
-    ((j : ℕ) → j < place → get_or starts j 0 ≡ start j (ruled_lines s)) → StoredLines s starts number place
-stored_sound s starts number place t a z f =
-    let b : sound s ≡ true = t ∙ rw (a, z) in
-    record {
-      answer = rw b z;
-      lines = λ y.
-          record { count = line_count (measure_of s) (indent_of s) (records_of s) place (rw z at a); first = f };
-    }
-
--- the number of answer 4, or 0, by whether the slot is sound
-pub stored_0 : (b : Bool) {n : ℕ} → n ≡ cond b 0 4 → n ≡ 0 → b ≡ true
-stored_0 true e z = refl
-stored_0 false e z = let y : ⊥ = omega arith in absurd y
-
-pub stored_4 : (b : Bool) {n : ℕ} → n ≡ cond b 0 4 → (n ≡ 0 → ⊥) → b ≡ false
-stored_4 true e z = absurd (z e)
-stored_4 false e z = refl
+  pub told_lines : {ws : List ℕ} → ws ≡ stored_words s → (starts : List ℕ) (n : ℕ) → outcome ws m ≡ says 0 n →
+      Starts ws m starts n → StoredLines s starts (record { measure = m; lines = n })
+  told_lines w starts n a f =
+      let j = stored_outcome s len few m e (rw w at a) in
+      let count = line_count (measure_of s) (indent_of s) (records_of s) n j in
+      let few_lines = composed_few (measure_of s) (indent_of s) (records_of s) in
+      let all = length_records (drop 8 s) 0 (count_of s) in
+      record {
+        sound_is = told ∙ rw j;
+        in_measure = e;
+        few_lines = omega arith;
+        lines_are = record { count = count; first = stored_starts s len few m e starts (rw w at f) };
+      }

@@ -2,17 +2,29 @@
 --
 --   head of      the eight words of a head, with the slot's setting and other counts
 --   spliced      the words of a record list with a stretch replaced
---   stored lines    answer 4, or 0 and the lines that the rules give the slot's records, by their first records
+--   fits         a stretch within a record list, where the list with it replaced has room
+--   is damaged   the refusal of a slot that is not sound
+--   is edit answer of    what an edit answers, as C sees it
+--   is stretch   the stretch that an edit of a slot names; is refused edit: why it names none
+--   stored lines    the lines that the rules give a sound slot's records, by their first records
 --   replaced     what becomes of a slot whose records are to be others: the answer, and the slot's words
 --
 -- Assumes nothing.
-use Rattle.std.specs.Prelude.{◌≡◌, ℕ, ◌+◌, ◌*◌, ◌-◌, ◌%◌, ◌≤◌, List, ◌++◌, true, cond, eqb, length, take, drop}
-use Rattle.rules.specs.Basics.{zeros}
-use Rattle.rules.specs.Layout.{record_length, records_length, slot_length, records_at}
+use Rattle.std.specs.Prelude.{◌≡◌, ℕ, ◌+◌, ◌*◌, ◌-◌, ◌≤◌, true, false, cond, eqb}
+use Rattle.std.specs.Prelude.{List, ◌++◌, Result, length, take, drop}
+use Rattle.rules.specs.Layout.{most_records, record_length, records_length, records_at}
 use Rattle.rules.specs.Records.{Rec}
-use Rattle.rules.specs.Sheet.{head, slot_words, count_of, measure_of, indent_of, setting_of, limits_ok}
-use Rattle.rules.specs.Refusals.{Answer, Outcome, judged, sound}
+use Rattle.rules.specs.Sheet.{head, slot_words, count_of, measure_of, indent_of, setting_of}
+use Rattle.rules.specs.Refusals.{Answer, edit_says, Outcome, judged, sound, edit_slot}
+use Rattle.rules.specs.Numbers.{number_of, place_of, edit_answer_from}
 use Rattle.rules.specs.Stable.{ruled_lines}
+use Rattle.rules.specs.declared.refusal.Refusal.{Refusal}
+use Rattle.rules.specs.declared.refusal.Refusal.TheVariants.{Damaged}
+use Rattle.rules.specs.declared.answer.Edited.{Edited}
+use Rattle.rules.specs.declared.measure.Measure.{Measure}
+use Rattle.slot.specs.declared.edit.EditAnswer.{EditAnswer}
+use Rattle.slot.specs.declared.edit.Stored.{Stored}
+use Rattle.slot.specs.declared.stretch.Stretch.{Stretch}
 use Rattle.slot.specs.Redone.{Starts}
 
 abbrev pub head_of : List ℕ → ℕ → ℕ → List ℕ
@@ -27,25 +39,43 @@ abbrev pub spliced_into : List ℕ → List ℕ → ℕ → ℕ → List ℕ →
 spliced_into list ws before after inserted =
     spliced ws before after inserted ++ drop (before + length inserted + (length ws - after)) list
 
+-- n words with the stretch replaced by k others
+pub record Fits (n k : ℕ) (t : Stretch) : Type 0 where
+  pub within : record_length * (t.place + t.deleted) ≤ n
+  pub room : record_length * t.place + k + (n - record_length * (t.place + t.deleted)) ≤ records_length
+
 -- the words of its records
 abbrev pub stored_words : List ℕ → List ℕ
 stored_words s = take (records_at + record_length * count_of s - records_at) (drop records_at s)
 
-pub record StoredLines (s starts : List ℕ) (number place : ℕ) : Type 0 where
-  pub answer : number ≡ cond (sound s) 0 4
-  pub lines : number ≡ 0 → Starts starts place (ruled_lines s)
+abbrev pub IsDamaged : List ℕ → Refusal → Type 0
+IsDamaged s e = (e ≡ Damaged) × (sound s ≡ false)
+
+abbrev pub IsEditAnswerOf : Result Edited Refusal → EditAnswer → Type 0
+IsEditAnswerOf r a = edit_says a.number a.place a.redone ≡ edit_answer_from r
+
+-- the stretch is there, what comes in is whole records, and there is room for them
+pub record IsStretch (s : List ℕ) (place deleted : ℕ) (inserted : List ℕ) (t : Stretch) : Type 0 where
+  pub place_is : t.place ≡ place
+  pub deleted_is : t.deleted ≡ deleted
+  pub inserted_is : length inserted ≡ record_length * t.inserted
+  pub within : place + deleted ≤ count_of s
+  pub room : count_of s - deleted + t.inserted ≤ most_records
+
+abbrev pub IsRefusedEdit : List ℕ → ℕ → ℕ → List ℕ → Refusal → Type 0
+IsRefusedEdit s place deleted inserted e =
+    (edit_says (number_of e) (place_of e) 0, s) ≡ edit_slot s place deleted inserted
+
+abbrev pub InMeasure : List ℕ → Measure → Type 0
+InMeasure s m = (m.measure ≡ measure_of s) × (m.indent ≡ indent_of s)
+
+pub record StoredLines (s starts : List ℕ) (stored : Stored) : Type 0 where
+  pub sound_is : sound s ≡ true
+  pub in_measure : InMeasure s stored.measure
+  pub few_lines : stored.lines ≤ most_records
+  pub lines_are : Starts starts stored.lines (ruled_lines s)
 
 unfoldable pub replaced : List ℕ → List Rec → Outcome Answer
 replaced s rs =
     let a = judged (measure_of s) (indent_of s) rs in
     (a, cond (eqb a.number 0) (slot_words (setting_of s) rs) s)
-
--- a slot whose measure and indent are within limits, and a list of whole records, with zeros past them, to replace
--- its own
-pub record Replaceable (s list : List ℕ) (total : ℕ) : Type 0 where
-  pub slot : length s ≡ slot_length
-  pub limits : limits_ok (measure_of s) (indent_of s) ≡ true
-  pub full : length list ≡ records_length
-  pub room : total ≤ records_length
-  pub whole : total % record_length ≡ 0
-  pub rest : drop total list ≡ zeros (records_length - total)

@@ -1,239 +1,163 @@
 // An edit of one slot: answers 4 to 10 and 12, and every word of the slot written where it is accepted.
-ghost use Rattle.std.specs.Prelude.{◌≡◌, length, take};
-ghost use Rattle.rules.specs.Layout.{slot_length};
-ghost use Rattle.rules.specs.Refusals.{says, edit_says, edit_slot};
+ghost use Rattle.std.specs.Prelude.{◌≡◌, ◌%◌, ◌≤◌, IfOk, OnOk, IfErr, length};
+ghost use Rattle.rules.specs.Layout.{most_records, record_length, slot_length};
+ghost use Rattle.rules.specs.Sheet.{count_of};
+ghost use Rattle.rules.specs.Refusals.{edit_slot};
+ghost use Rattle.rules.specs.Numbers.{answer_from, edit_answer_from};
 ghost use Rattle.compose.specs.Paragraph.{paragraph};
 ghost use Rattle.compose.specs.Scan.{FilledFrom, Front};
 ghost use Rattle.compose.specs.Composed.{Kept};
-ghost use Rattle.slot.specs.Redone.{Countable, Counted};
-ghost use Rattle.slot.specs.Slot.{stored_words, StoredLines, replaced, Replaceable};
+ghost use Rattle.slot.specs.Slot.{stored_words, IsDamaged, IsEditAnswerOf, InMeasure, StoredLines, replaced};
 
 use crate::redone::lines_redone;
+use crate::stretch::Stretch;
 use crate::words::{splice, write_slot};
-use compose::{check, compose, keep_metrics};
+use compose::{Composition, Judged, Metrics, Paragraph, check, compose, keep_metrics};
 use rules::layout::{
-    IN_USE, INDENT, LINES, LINES_WORDS, MEASURE, MOST_RECORDS, PLACES_WORDS, RECORD_COUNT,
-    RECORD_WORDS, RECORDS, RECORDS_WORDS,
+    IN_USE, INDENT, LINE_WORDS, LINES, MEASURE, MOST_RECORDS, RECORD_COUNT, RECORD_WORDS, RECORDS,
+    RECORDS_WORDS,
 };
-use rules::{Answer, excess, limits_ok, says};
+use rules::{Edited, Measure, Refusal};
 
 // The most that a record count may be, as a word.
 const MOST_COUNT: u32 = MOST_RECORDS as u32;
 
-// A number and a place, as document 01's table of refusals has them for an edit, and the lines composed anew. A
-// refused edit has composed none.
+/// What an edit answers, as C sees it: number, place, and the lines composed anew. A refused edit has composed none.
+// a struct beside Answer and ImportAnswer: C has a struct for each (include/gelumbrio.h)
 #[repr(C)]
-#[derive(Clone, Copy)]
+#[derive(Clone, Copy, Debug, PartialEq, Eq)]
 pub struct EditAnswer {
     pub number: u32,
     pub place: u32,
     pub redone: u32,
 }
 
-pub fn refusal(number: u32, place: u32) -> EditAnswer
-    ensures { (result.number ≡ number) × (result.place ≡ place) × (result.redone ≡ 0) }
-{
-    EditAnswer {
-        number: number,
-        place: place,
-        redone: 0,
+impl From<Result<Edited, Refusal>> for EditAnswer {
+    ghost from_gives = { IsEditAnswerOf };
+
+    fn from(outcome: Result<Edited, Refusal>) -> EditAnswer {
+        match outcome {
+            Ok(edited) => EditAnswer {
+                number: 0,
+                place: edited.lines,
+                redone: edited.redone,
+            },
+            Err(refusal) => EditAnswer {
+                number: refusal.number(),
+                place: refusal.place(),
+                redone: 0,
+            },
+        }
     }
 }
 
-pub(crate) fn damaged() -> Answer
-    ensures { (result.number ≡ 4) × (result.place ≡ 0) }
-{
-    says(4, 0)
+// What the rules make of a slot's records as they stand: their measure, and how many lines they are.
+#[derive(Clone, Copy, Debug, PartialEq, Eq)]
+pub(crate) struct Stored {
+    pub(crate) measure: Measure,
+    pub(crate) lines: usize,
 }
 
-// Answer 4, or 0 and how many lines the rules give the slot's records: then the records' metrics are filled, and the
-// first record of each line stands in `starts`. The stored line words are not looked at, since on a sheet of any words
+// The slot's records.
+fn stored_records(words: &[u32]) -> Paragraph<'_>
+    requires len { length words.now ≡ slot_length }
+    requires few { count_of words.now ≤ most_records }
+    ensures { result.words.now ≡ stored_words words.entry.now }
+{
+    let end = RECORDS + RECORD_WORDS * words[RECORD_COUNT] as usize;
+    Paragraph {
+        words: &words[RECORDS..end],
+    }
+}
+
+// What the rules make of the slot's records: then the records' metrics are filled, and the first record of each line
+// stands in `starts`. A damaged slot is refused. The stored line words are not looked at, since on a sheet of any words
 // they may be anything.
 pub(crate) fn stored_lines(
     words: &[u32],
-    advances: &mut [u32; MOST_RECORDS],
-    gaps: &mut [u64; MOST_RECORDS],
-    offsets: &mut [u32; MOST_RECORDS],
+    metrics: &mut Metrics,
     starts: &mut [u32; MOST_RECORDS],
-) -> Answer
+) -> Result<Stored, Refusal>
     requires { length words.now ≡ slot_length }
-    ensures lines { StoredLines words.now starts.new result.number result.place }
-    ensures metrics { result.number ≡ 0 → Kept (stored_words words.now) advances.new
-        gaps.new offsets.new }
+    ensures damaged { IfErr result (λ e. IsDamaged words.now e) }
+    ensures lines { IfOk result (λ stored. StoredLines words.now starts.new stored) }
+    ensures kept { OnOk result (Kept (stored_words words.now) metrics.new) }
 {
-    let m = words[MEASURE];
-    let x = words[INDENT];
-    let count = words[RECORD_COUNT];
-    if !limits_ok(m, x) {
-        return damaged();
-    }
-    if MOST_COUNT < count {
-        return damaged();
+    let Some(measure) = Measure::new(words[MEASURE], words[INDENT]) else {
+        return Err(Refusal::Damaged);
+    };
+    if MOST_COUNT < words[RECORD_COUNT] {
+        return Err(Refusal::Damaged);
     }
     if 1 < words[IN_USE] {
-        return damaged();
+        return Err(Refusal::Damaged);
     }
-    let end = RECORDS + RECORD_WORDS * count as usize;
-    let a = check(&words[RECORDS..end], m, x, advances, gaps, offsets, starts);
-    if a.number != 0 {
-        return damaged();
+    match check(stored_records(words), measure, metrics, starts) {
+        Ok(lines) => Ok(Stored { measure, lines }),
+        Err(_) => Err(Refusal::Damaged),
     }
-    a
 }
 
-// Composes the first `total` words of `list` as the slot's records and, where they are accepted, writes the slot. The
-// records before `known` were the slot's, and answer 4 has asked them. The metrics of the records from `kept` on are
-// filled, and those before the unit that record `stop` is in.
+// Composes `new` as the slot's records and, where they are accepted, writes the slot and says how many lines it has.
 fn replace(
     words: &mut [u32],
-    list: &[u32],
-    total: usize,
-    known: usize,
-    stop: usize,
-    kept: usize,
-    advances: &mut [u32; MOST_RECORDS],
-    gaps: &mut [u64; MOST_RECORDS],
-    offsets: &mut [u32; MOST_RECORDS],
-) -> Answer
-    requires replaceable { Replaceable words.old list.now total }
-    requires filled_from { FilledFrom (take total list.now) known kept advances.old gaps.old offsets.old }
-    requires front { Front (take total list.now) known stop advances.old gaps.old offsets.old }
-    ensures { (says result.number result.place, words.new) ≡
-        replaced words.old (paragraph (take total list.now)) }
+    new: Paragraph<'_>,
+    measure: Measure,
+    judged: Judged,
+    metrics: &mut Metrics,
+) -> Result<usize, Refusal>
+    requires len { length words.old ≡ slot_length }
+    requires whole { length new.words.now % record_length ≡ 0 }
+    requires in_measure { InMeasure words.old measure }
+    requires filled_from { FilledFrom new.words.now judged.known judged.kept metrics.old }
+    requires front { Front new.words.now judged.known judged.stop metrics.old }
+    ensures outcome { (answer_from result, words.new) ≡ replaced words.old (paragraph new.entry.words.now) }
+    ensures few { IfOk result (λ count. count ≤ most_records) }
 {
-    let m = words[MEASURE];
-    let x = words[INDENT];
-    let mut places = [0u32; PLACES_WORDS];
-    let mut lines = [0u32; LINES_WORDS];
-    let a = compose(
-        &list[0..total],
-        known,
-        stop,
-        kept,
-        m,
-        x,
-        advances,
-        gaps,
-        offsets,
-        &mut places,
-        &mut lines,
-    );
-    if a.number == 0 {
-        write_slot(
-            words,
-            (total / RECORD_WORDS) as u32,
-            a.place,
-            list,
-            &places,
-            &lines,
-        );
-    }
-    a
+    let mut composition = Composition::new();
+    let count = compose(new, judged, measure, metrics, &mut composition)?;
+    write_slot(words, new.words, count as u32, &composition);
+    Ok(count)
 }
 
-// An edit's answer, where `a` is the new records': with the lines composed anew, where they are accepted. Old lines
-// start as `starts` has it, new ones as the slot's words do.
-fn counted(
-    a: Answer,
-    starts: &[u32; MOST_RECORDS],
-    old_lines: u32,
-    words: &[u32],
+/// One slot's edit: `deleted` records go out at `place`, and the inserted ones come in there, six words to a record. A
+/// refused one leaves the slot as it is: the new record list is held in a local until every check has passed.
+// Place, deleted and inserted come apart, as C passes them and the definition `edit_slot` has them; `Stretch` holds
+// them tested. The length stays a clause: docs/CLAIMS.md names this function, and it takes any slice of that length.
+// local arrays and no Vec: the library has no heap
+pub fn edit_slot(
+    words: &mut [u32],
     place: u32,
     deleted: u32,
-    inserted: usize,
-) -> EditAnswer
-    requires { (length words.now ≡ slot_length)
-        × (a.number ≡ 0 → Countable old_lines a.place place deleted inserted) }
-    ensures { Counted starts.now old_lines words.now a.number a.place
-        place deleted inserted result.number result.place result.redone }
-{
-    if a.number != 0 {
-        return refusal(a.number, a.place);
-    }
-    let redone = lines_redone(
-        starts,
-        old_lines as usize,
-        &words[LINES..],
-        a.place as usize,
-        place as usize,
-        deleted as usize,
-        inserted,
-    );
-    EditAnswer {
-        number: 0,
-        place: a.place,
-        redone: redone as u32,
-    }
-}
-
-// One slot's edit: `deleted` records go out at `place`, and the inserted ones come in there. The new record list is
-// held in a local until every check has passed.
-pub fn edit_slot(words: &mut [u32], place: u32, deleted: u32, inserted: &[u32]) -> EditAnswer
+    inserted: &[u32],
+) -> Result<Edited, Refusal>
     requires { length words.old ≡ slot_length }
-    ensures { (edit_says result.number result.place result.redone, words.new) ≡
-        edit_slot words.old place deleted inserted.now }
+    ensures { (edit_answer_from result, words.new) ≡ edit_slot words.old place deleted inserted.now }
 {
-    let mut advances = [0u32; MOST_RECORDS];
-    let mut gaps = [0u64; MOST_RECORDS];
-    let mut offsets = [0u32; MOST_RECORDS];
+    let mut metrics = Metrics::new();
     let mut starts = [0u32; MOST_RECORDS];
-    let stored = stored_lines(words, &mut advances, &mut gaps, &mut offsets, &mut starts);
-    if stored.number != 0 {
-        return refusal(4, 0);
-    }
-    let count = words[RECORD_COUNT];
-    if count < place {
-        return refusal(5, count);
-    }
-    if count - place < deleted {
-        return refusal(5, count);
-    }
-    let n = inserted.len();
-    if n % RECORD_WORDS != 0 {
-        return refusal(6, 0);
-    }
-    let kept = (count - deleted) as usize * RECORD_WORDS;
-    if RECORDS_WORDS < kept + n {
-        return refusal(7, 0);
-    }
+    let stored = stored_lines(words, &mut metrics, &mut starts)?;
+    let stretch = Stretch::of(words, place, deleted, inserted)?;
+    let old = stored_records(words);
     let mut list = [0u32; RECORDS_WORDS];
-    let end = RECORDS + RECORD_WORDS * count as usize;
-    splice(
-        &mut list,
-        &words[RECORDS..end],
-        place as usize * RECORD_WORDS,
-        (place + deleted) as usize * RECORD_WORDS,
-        inserted,
-    );
-    let start = place as usize;
-    let metrics = keep_metrics(
-        &words[RECORDS..end],
-        (place + deleted) as usize,
-        start + n / RECORD_WORDS,
-        &mut advances,
-        &mut gaps,
-        &mut offsets,
-    );
-    // the unit before the place may have been cut, or joined to what comes in
-    let stop = excess(place, 1) as usize;
-    let a = replace(
-        words,
-        &list,
-        kept + n,
-        start,
-        stop,
-        metrics,
-        &mut advances,
-        &mut gaps,
-        &mut offsets,
-    );
-    counted(
-        a,
-        &starts,
-        stored.place,
-        words,
-        place,
-        deleted,
-        n / RECORD_WORDS,
-    )
+    splice(&mut list, old.words, stretch, inserted);
+    let total = old.words.len() - RECORD_WORDS * stretch.deleted + inserted.len();
+    let end = stretch.place + stretch.deleted;
+    let kept = keep_metrics(old, end, stretch.place + stretch.inserted, &mut metrics);
+    let judged = Judged {
+        known: stretch.place,
+        // the unit before the place may have been cut, or joined to what comes in
+        stop: stretch.place.saturating_sub(1),
+        kept,
+    };
+    let new = Paragraph {
+        words: &list[..total],
+    };
+    let lines = replace(words, new, stored.measure, judged, &mut metrics)?;
+    let line_words = &words[LINES..LINES + LINE_WORDS * lines];
+    let redone = lines_redone(&starts[..stored.lines], line_words, stretch);
+    Ok(Edited {
+        lines: lines as u32,
+        redone: redone as u32,
+    })
 }

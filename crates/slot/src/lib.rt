@@ -4,8 +4,9 @@
 mod edit;
 mod giving;
 mod redone;
+mod stretch;
 mod words;
 
-pub use edit::{EditAnswer, edit_slot, refusal};
+pub use edit::{EditAnswer, edit_slot};
 pub use giving::give_back_slot;
 pub use words::clear;

@@ -1,78 +1,61 @@
-// How many lines an edit composes anew: document 02, request 03. Lines are told by their first records: the old ones
-// in `starts`, one after another, the new ones in line words, three to a line.
-ghost use Rattle.std.specs.Prelude.{◌≡◌, ◌≤◌, length};
-ghost use Rattle.rules.specs.Layout.{most_records, lines_length};
+// How many lines an edit composes anew. Lines are told by their first records: the old ones in `starts`, one after
+// another, the new ones in line words, three to a line.
+ghost use Rattle.std.specs.Prelude.{◌+◌, ◌/◌, ◌≤◌, length};
+ghost use Rattle.rules.specs.Layout.{most_records, line_length};
 ghost use Rattle.slot.specs.Redone.{FirstFrom, StartsWith, FirstRedone, Countable, Reported};
 
+use crate::stretch::Stretch;
 use rules::layout::LINE_WORDS;
 
-// The first line from line `from` on that starts with record `first` or a later one, or how many lines there are.
-fn line_from(starts: &[u32], count: usize, from: usize, first: usize) -> usize
-    requires { count ≤ length starts.now }
-    ensures { FirstFrom starts.now count from first result }
+// The first line from line `from` on that starts with record `first` or a later one, or how many lines there are. No
+// `Option`: where none does, the next search begins there (`FirstFrom`). No `partition_point`, though the lines ascend:
+// the next search goes on where this one ended, so that all are gone through once.
+fn line_from(starts: &[u32], from: usize, first: usize) -> usize
+    ensures { FirstFrom starts.now from first result }
 {
-    let mut j = from;
-    while j < count {
+    for j in from..starts.len() {
         if first <= starts[j] as usize {
             return j;
         }
-        j += 1;
     }
-    j
+    from.max(starts.len())
 }
 
 // f: the line before the one that holds the place, or 0.
-fn first_redone(starts: &[u32], count: usize, place: usize) -> usize
-    requires { (count ≤ length starts.now) × (place ≤ most_records) }
-    ensures { FirstRedone starts.now count place result }
+#[tactic(auto, using(crate::proofs::RedoneReport::redone_from))]
+fn first_redone(starts: &[u32], place: usize) -> usize
+    requires { place ≤ most_records }
+    ensures { FirstRedone starts.now place result }
 {
-    let next = line_from(starts, count, 1, place + 1);
-    if next < 2 { 0 } else { next - 2 }
+    line_from(starts, 1, place + 1).saturating_sub(2)
 }
 
 // Whether line k is there and starts with record `first`.
-fn starts_with(starts: &[u32], count: usize, k: usize, first: usize) -> bool
-    requires { count ≤ length starts.now }
-    ensures { StartsWith starts.now count k first result }
+fn starts_with(starts: &[u32], k: usize, first: usize) -> bool
+    ensures { StartsWith starts.now k first result }
 {
-    if count <= k {
-        return false;
-    }
-    starts[k] as usize == first
+    k < starts.len() && starts[k] as usize == first
 }
 
 // The report: how many lines there are from f on, up to the first at which an old line stands again. Both lists of
 // first records ascend, so old lines are gone through once.
-pub(crate) fn lines_redone(
-    starts: &[u32],
-    count: usize,
-    lines: &[u32],
-    line_count: usize,
-    place: usize,
-    deleted: usize,
-    inserted: usize,
-) -> usize
-    requires countable { Countable count line_count place deleted inserted }
-    requires starts_len { (length starts.now ≡ most_records) × (length lines.now ≡ lines_length) }
+pub(crate) fn lines_redone(starts: &[u32], lines: &[u32], stretch: Stretch) -> usize
+    requires { Countable (length starts.now) (length lines.now / line_length) stretch }
     ensures few { result ≤ most_records }
-    ensures report { Reported starts.now count lines.now line_count
-        place deleted inserted result }
+    ensures report { Reported starts.now lines.now stretch result }
 {
-    let f = first_redone(starts, count, place);
-    let mut j = f;
+    let f = first_redone(starts, stretch.place);
+    let line_count = lines.len() / LINE_WORDS;
     let mut k = 1;
-    while j < line_count {
+    for j in f..line_count {
         let first = lines[LINE_WORDS * j] as usize;
-        if place + inserted <= first {
-            let was = first - inserted + deleted;
-            k = line_from(starts, count, k, was);
-            if 1 <= j {
-                if starts_with(starts, count, k, was) {
-                    return j - f;
-                }
+        if stretch.place + stretch.inserted <= first {
+            let was = first - stretch.inserted + stretch.deleted;
+            k = line_from(starts, k, was);
+            if 1 <= j && starts_with(starts, k, was) {
+                return j - f;
             }
         }
-        j += 1;
     }
-    j - f
+    line_count.saturating_sub(f)
 }

@@ -1,45 +1,30 @@
--- `leaflet::ahead::rt_ahead` meets its contract: at each turn the next rt is that from the offset on. Assumes nothing.
-use Prim.Native.Nat.{◌-◌}
-use lib.ListN.{length}
-use borrow.Author.Rules.{rules}
-use Rattle.leaflet.proofs.ItemsFrom.{fits_char, less_char, fits_tag, less_tag, past_tag}
-use Rattle.leaflet.proofs.RtAheadLoops.{Sought, sought_start, sought_nothing, sought_character, sought_rt}
-use Rattle.leaflet.proofs.RtAheadLoops.{sought_other}
-use Rattle.leaflet.proofs.RtAheadLoops.{sought_end}
+-- `leaflet::ahead::rt_ahead` meets its contract. Assumes nothing.
+use Rattle.std.proofs.Common.{arith, rules, ◌≡◌, ◌∙◌, inl, tests}
+use Rattle.std.proofs.lemmas.Iterator.Adapters.{YieldsList-from_skip, YieldsList-from_skip_while}
+use Rattle.std.proofs.lemmas.Iterator.Consumers.{count_from_yields_List, YieldsList-at, YieldsList-from_first}
+use Rattle.std.proofs.lemmas.Iterator.Search.{YieldsList-from_take_while}
+use Rattle.leaflet.specs.Reader.{items_from}
+use Rattle.leaflet.specs.Enums.{item_of}
+use Rattle.leaflet.proofs.ItemsFrom.{is_char, is_no_rt, items_fit, rt_taken}
 use Rattle.leaflet.proofs.ahead.rt_ahead.Goals as goal
 
-pub loop-i-init : goal.loop-i-init
-loop-i-init c = search (rules, sought_start)
-
-pub returns-in-Nothing : goal.returns-in-Nothing
-returns-in-Nothing c = search (rules, sought_nothing)
-
-pub overflow_add-i : goal.overflow_add-i
-overflow_add-i c = search (rules, fits_tag)
-
-pub chars_before_tag-requires : goal.chars_before_tag-requires
-chars_before_tag-requires c = search (rules, past_tag)
-
-pub returns-then-tag_number-eq-RT_TAG : goal.returns-then-tag_number-eq-RT_TAG
-returns-then-tag_number-eq-RT_TAG c = search (rules, sought_rt)
-
-pub overflow_add-i-in-Markup : goal.overflow_add-i-in-Markup
-overflow_add-i-in-Markup c = search (rules, fits_tag)
-
-pub loop-i-smaller-in-Markup : goal.loop-i-smaller-in-Markup
-loop-i-smaller-in-Markup c = search (rules, less_tag)
-
-pub loop-i-preserved-in-Markup : goal.loop-i-preserved-in-Markup
-loop-i-preserved-in-Markup c = search (rules, sought_other)
-
-pub overflow_add-i-in-Character : goal.overflow_add-i-in-Character
-overflow_add-i-in-Character c = search (rules, fits_char)
-
-pub loop-i-smaller : goal.loop-i-smaller
-loop-i-smaller c = search (rules, less_char)
-
-pub loop-i-preserved : goal.loop-i-preserved
-loop-i-preserved c = search (rules, sought_character)
+pub count-requires-clause-fits : goal.count-requires-clause-fits
+count-requires-clause-fits c =
+    let few = items_fit c.args.text.now in
+    let same : c.take_while.result.iter.iter.iter.0.now ≡ c.args.text.now = search rules in
+    inl (rw same (omega (arith, few)))
 
 pub returns : goal.returns
-returns c = search (rules, sought_end)
+returns c =
+    count_from_yields_List c.take_while.result c.count.result c.count.ensures.ran
+    (YieldsList-from_take_while _ is_char
+    (YieldsList-at c.take_while.ensures.source
+    (YieldsList-from_skip 1
+    (YieldsList-at c.skip.ensures.source
+    (YieldsList-from_skip_while _ item_of _ is_no_rt _ (λ x b q k. search (rules, tests))
+    (YieldsList-at c.skip_while.ensures.source
+    (YieldsList-from_first item_of (λ s. items_from s.0.now) (items_from c.args.text.now) cc))
+    c.skip_while.ensures.closure c.skip_while.ensures.done_skipping))
+    c.skip.ensures.count))
+    c.take_while.ensures.closure c.take_while.ensures.done (λ x b q k. search (rules, tests)))
+    ∙ rt_taken (items_from c.args.text.now)

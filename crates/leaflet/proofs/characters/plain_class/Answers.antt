@@ -1,11 +1,10 @@
 -- `leaflet::characters::plain_class` meets its contract. Assumes nothing.
-use borrow.Author.Rules.{rules}
-use Rattle.leaflet.proofs.Decisions.{asked_yes, asked_no}
-use Rattle.leaflet.proofs.PlainClass.{plain_class, plain_none}
+use Rattle.std.proofs.Common.{sym}
+use Rattle.leaflet.proofs.PlainClass.{plain_some, plain_none}
 use Rattle.leaflet.proofs.characters.plain_class.Goals as goal
 
-pub returns-then-is_text_char : goal.returns-then-is_text_char
-returns-then-is_text_char c = search (rules, plain_class, asked_yes)
+pub returns-then-is_text_char-clause-allowed : goal.returns-then-is_text_char-clause-allowed
+returns-then-is_text_char-clause-allowed c = plain_some _ _ (sym c.if-is_text_char.ensures) c.class_of.ensures
 
-pub returns-else-is_text_char : goal.returns-else-is_text_char
-returns-else-is_text_char c = search (rules, plain_none, asked_no)
+pub returns-else-is_text_char-clause-allowed : goal.returns-else-is_text_char-clause-allowed
+returns-else-is_text_char-clause-allowed c = plain_none _ (sym c.if-is_text_char.ensures)

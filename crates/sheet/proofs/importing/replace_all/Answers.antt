@@ -1,27 +1,14 @@
 -- `sheet::importing::replace_all` meets its contract. Assumes nothing.
-use native.Mathlib.Omega.{arith}
-use Rattle.sheet.proofs.EntryLaws.{entry_zero, entry_passed, edit_refused}
-use Rattle.sheet.proofs.ImportEdits.{replaced_passed}
+use Rattle.std.proofs.Common.{rules, ◌≡◌, Err}
+use Rattle.sheet.proofs.ImportEdits.{replaced_on_range}
 use Rattle.sheet.proofs.importing.replace_all.Goals as goal
 
-pub returns-then-entry-ne0 : goal.returns-then-entry-ne0
-returns-then-entry-ne0 c = edit_refused _ _ _ _ _ c.entry_answer-entry.ensures c.if-entry-ne0.true c.refusal.ensures
-
--- the named slot is within the sheet
-pub bounds-sheet-start : goal.bounds-sheet-start
-bounds-sheet-start c =
-    let zero = entry_zero c.args.sheet.now c.args.caller.0 c.args.slot.0 c.entry_answer-entry.ensures
-    c.if-entry-ne0.false in
-    let e = entry_passed _ _ _ zero in omega arith
-
-pub slice_bounds-edit_slot-end : goal.slice_bounds-edit_slot-end
-slice_bounds-edit_slot-end c =
-    let zero = entry_zero c.args.sheet.now c.args.caller.0 c.args.slot.0 c.entry_answer-entry.ensures
-    c.if-entry-ne0.false in
-    let e = entry_passed _ _ _ zero in omega arith
+pub returns-in_err-edited : goal.returns-in_err-edited
+returns-in_err-edited c =
+    let e : c.from_residual-in_err-edited.result ≡ Err c.in_err-edited.field-0.0 = search rules in
+    let r = c.in_ok-range.ensures in
+    rw e (replaced_on_range _ _ _ _ _ _ _ _ r.entered r.start r.end c.in_err-edited.ensures)
 
 pub returns : goal.returns
 returns c =
-    let zero = entry_zero c.args.sheet.now c.args.caller.0 c.args.slot.0 c.entry_answer-entry.ensures
-    c.if-entry-ne0.false in
-    replaced_passed _ _ _ _ _ _ zero c.edit_slot.ensures
+    let r = c.in_ok-range.ensures in replaced_on_range _ _ _ _ _ _ _ _ r.entered r.start r.end c.in_ok-edited.ensures

@@ -1,9 +1,5 @@
 -- `sheet::reading::read` meets its contract. Assumes nothing.
-use mathlib.Core.Path.{◌≡◌, refl, ap}
-use Prim.Native.Nat.{ℕ, ◌+◌, ◌-◌, ◌≤◌}
-use native.Mathlib.Omega.{arith}
-use mathlib.Core.List.{List}
-use lib.ListN.{length}
+use Rattle.std.proofs.Common.{◌≡◌, refl, ap, ℕ, ◌+◌, ◌-◌, ◌≤◌, arith, List, length}
 use Rattle.rules.specs.Refusals.{read_start, read_length, read_part}
 use Rattle.sheet.proofs.ReadLaws.{read_fits, part_is}
 use Rattle.sheet.proofs.reading.read.Goals as goal
@@ -23,20 +19,20 @@ told {ws} {caller} {k} e =
     record { start_is = ap (λ (p : ℕ × ℕ). p.0) e; end_is = q; inside = rw q f.inside; small = rw q f.small }
 
 pub offset_bounds-sheet-start : goal.offset_bounds-sheet-start
-offset_bounds-sheet-start c = let t = told c.read_part-part.ensures.part in omega arith
+offset_bounds-sheet-start c = let t = told c.read_part-start.ensures.part in omega arith
 
 pub slice_bounds-result-start : goal.slice_bounds-result-start
-slice_bounds-result-start c = let t = told c.read_part-part.ensures.part in omega arith
+slice_bounds-result-start c = let t = told c.read_part-start.ensures.part in omega arith
 
 pub slice_bounds-result-end : goal.slice_bounds-result-end
-slice_bounds-result-end c = (told c.read_part-part.ensures.part).inside
+slice_bounds-result-end c = (told c.read_part-start.ensures.part).inside
 
 pub slice_bounds-result-count : goal.slice_bounds-result-count
-slice_bounds-result-count c = let t = told c.read_part-part.ensures.part in omega arith
+slice_bounds-result-count c = let t = told c.read_part-start.ensures.part in omega arith
 
 pub returns : goal.returns
 returns c =
-    let t = told c.read_part-part.ensures.part in
-    let part = part_is _ _ _ c.read_part-part.result.start (c.read_part-part.result.end - c.read_part-part.result.start)
-    t.start_is (omega arith) (omega arith) in
+    let t = told c.read_part-start.ensures.part in
+    let r = c.read_part-start.result in
+    let part = part_is _ _ _ r.start (r.end - r.start) t.start_is (omega arith) (omega arith) in
     record { words = part.words; count = part.count; place = (refl, omega arith); kept = refl }

@@ -1,6 +1,0 @@
--- `demo::ruby::print_groups` is safe and ends: the measure is what is left of the line's records. Assumes nothing.
-use Rattle.std.proofs.Common.{◌-◌}
-use Rattle.demo.proofs.ruby.print_groups.Given as goal
-
-abbrev pub decreases-loop-i : goal.decreases-loop-i
-decreases-loop-i l = l.line.end - l.i

@@ -1,6 +1,0 @@
--- `rules::sheet::slot_limits_ok` meets its contract. Assumes nothing.
-use borrow.Author.Rules.{rules}
-use Rattle.rules.proofs.sheet.slot_limits_ok.Goals as goal
-
-pub returns : goal.returns
-returns c = rw c.limits_ok.ensures
