@@ -28,7 +28,7 @@ module _ {ws : List ℕ} {ms : Metrics} {places lines : List ℕ} {i : ℕ} {l :
     unfolding amounts_of
     amounts_are = cc (gaps_are, p.sums.solid_is)
 
-    line_bounds : RateBounds e c
+    pub line_bounds : RateBounds e c
     line_bounds =
         let n = line_at ws i l.end in
         rw (amounts_are, gaps_are)

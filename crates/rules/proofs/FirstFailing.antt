@@ -1,7 +1,7 @@
 -- The place of the first element that fails a test: it is the first that lacks the property tested, and there is none
 -- exactly where all have it. Assumes nothing.
-use Rattle.std.proofs.Common.{◌≡◌, refl, sym, ap, ◌∙◌, ℕ, zero, suc, ◌+◌, ◌<◌, arith, Bool, true, false, List, []}
-use Rattle.std.proofs.Common.{◌∷◌, ◌++◌, inl, inr, None, Some, length, drop, length-append}
+use Rattle.std.proofs.Common.{◌≡◌, refl, sym, ap, ◌∙◌, ℕ, zero, suc, ◌+◌, ◌≤◌, ◌<◌, arith, Bool, true, false, List, []}
+use Rattle.std.proofs.Common.{◌∷◌, ◌++◌, inl, inr, None, Some, length, take, drop, length-append}
 use Rattle.rules.specs.Basics.{first_failing}
 use Rattle.rules.specs.Meanings.{All, all_none, all_more, FirstLacking}
 use Rattle.std.proofs.lemmas.Bool.{cases_Bool, true≢false}
@@ -25,6 +25,16 @@ module _ {A : Type 0} (t : A → Bool) where
   unfolding first_failing
   all_pass i all_none = refl
   all_pass i (all_more e h) = rw (first_failing, e) (all_pass (suc i) h)
+
+  -- the search goes on past elements that pass
+  pub pass_over : (i k : ℕ) (ps : List A) → k ≤ length ps → All Passes (take k ps) →
+      first_failing t i ps ≡ first_failing t (i + k) (drop k ps)
+  unfolding first_failing
+  pass_over i zero ps h a = let e : i + 0 ≡ i = omega arith in rw e
+  pass_over i (suc k) [] h a = absurd (omega arith)
+  pass_over i (suc k) (p ∷ ps) h (all_more e a) =
+      let n : suc i + k ≡ i + suc k = omega arith in
+      rw (first_failing, e, ← n) (pass_over (suc i) k ps (omega arith) a)
 
   -- the element before which k stand
   pub passes_at : {ps : List A} → All Passes ps → (k : ℕ) (a : A) (bs : List A) → drop k ps ≡ a ∷ bs → Passes a

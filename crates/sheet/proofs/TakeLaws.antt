@@ -108,7 +108,7 @@ module _ (ws : List ℕ) (caller slots : ℕ) where
       let n : slot_count ws ≡ slots = omega (arith, h) in
       record { within = omega arith; rest = rw (n, sub-zero) }
 
-  looked_more : {k : ℕ} → Looked k → k < slots → (FreeAt (settings ws) caller k → ⊥) → Looked (k + 1)
+  pub looked_more : {k : ℕ} → Looked k → k < slots → (FreeAt (settings ws) caller k → ⊥) → Looked (k + 1)
   looked_more {k} l h f =
       let n : slots - k ≡ suc (slots - (k + 1)) = omega arith in
       let m : suc k ≡ k + 1 = omega arith in

@@ -21,10 +21,10 @@ use Rattle.slot.proofs.RefusalNumbers.{number_not_0}
 use Rattle.slot.specs.Slot.{stored_words, InMeasure, StoredLines}
 
 -- n records at the front of some words, as a paragraph
-front_size : (w : List ℕ) (n : ℕ) → 6 * n ≤ length w → record_count (take (6 * n) w) ≡ n
+pub front_size : (w : List ℕ) (n : ℕ) → 6 * n ≤ length w → record_count (take (6 * n) w) ≡ n
 front_size w n h = omega (arith, length-take-le (6 * n) w h)
 
-front_paragraph : (w : List ℕ) (n : ℕ) → 6 * n ≤ length w → paragraph (take (6 * n) w) ≡ records w 0 n
+pub front_paragraph : (w : List ℕ) (n : ℕ) → 6 * n ≤ length w → paragraph (take (6 * n) w) ≡ records w 0 n
 front_paragraph w n h = ap (λ k. records (take (6 * n) w) 0 k) (front_size w n h) ∙ records_take w n
 
 -- the part of a slot that its records are
