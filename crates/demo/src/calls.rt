@@ -16,8 +16,8 @@ use std::ops::Range;
 pub(crate) fn set_up(sheet: &mut [u32], clinics: &[u32], measures: &[u32], indents: &[u32]) {
     let answer = sheet::set_up(sheet, clinics, measures, indents);
     match accepted(answer.number, answer.place as usize) {
-        Ok(slots) => show(format_args!("  accepted: {slots} slots.")),
-        Err(refused) => show(format_args!("  {refused}")),
+        Ok(slots) => show(format_args!("  accepted: {slots} slots.\n")),
+        Err(refused) => show(format_args!("  {refused}\n")),
     }
 }
 
@@ -25,8 +25,8 @@ pub(crate) fn set_up(sheet: &mut [u32], clinics: &[u32], measures: &[u32], inden
 pub(crate) fn take(sheet: &mut [u32], caller: Clinic) {
     let answer = sheet::take(sheet, caller);
     match accepted(answer.number, answer.place as usize) {
-        Ok(slot) => show(format_args!("  accepted: slot {slot}.")),
-        Err(refused) => show(format_args!("  {refused}")),
+        Ok(slot) => show(format_args!("  accepted: slot {slot}.\n")),
+        Err(refused) => show(format_args!("  {refused}\n")),
     }
 }
 
@@ -34,15 +34,15 @@ pub(crate) fn take(sheet: &mut [u32], caller: Clinic) {
 pub(crate) fn give_back(sheet: &mut [u32], caller: Clinic, slot: SlotNumber) {
     let answer = sheet::give_back(sheet, caller, slot);
     match accepted(answer.number, answer.place as usize) {
-        Ok(_) => show("  accepted."),
-        Err(refused) => show(format_args!("  {refused}")),
+        Ok(_) => show("  accepted.\n"),
+        Err(refused) => show(format_args!("  {refused}\n")),
     }
 }
 
 fn show_composed(outcome: Result<Composed, Refused>) {
     match outcome {
-        Ok(composed) => show(format_args!("  accepted: {composed}.")),
-        Err(refused) => show(format_args!("  {refused}")),
+        Ok(composed) => show(format_args!("  accepted: {composed}.\n")),
+        Err(refused) => show(format_args!("  {refused}\n")),
     }
 }
 
@@ -63,7 +63,7 @@ pub(crate) fn edit(
 
 /// A clinic imports a text, in place of all that a slot has. One that is no leaflet is shown again from its fault on.
 pub(crate) fn import(sheet: &mut [u32], caller: Clinic, slot: SlotNumber, text: &str) {
-    show(format_args!("  {text}"));
+    show(format_args!("  {text}\n"));
     let answer = sheet::import(sheet, caller, slot, TEXT_SIZE, text.as_bytes());
     let redone = answer.redone;
     let outcome = accepted(answer.number, answer.place);
@@ -71,7 +71,7 @@ pub(crate) fn import(sheet: &mut [u32], caller: Clinic, slot: SlotNumber, text: 
     if answer.number == NO_LEAFLET
         && let Some(rest) = text.get(answer.place..)
     {
-        show(format_args!("  from there: {rest}"));
+        show(format_args!("  from there: {rest}\n"));
     }
 }
 
@@ -95,8 +95,8 @@ fn read(sheet: &[u32], caller: Clinic, slot: SlotNumber) -> Result<&[u32], Refus
 /// How many lines a clinic reads in a slot.
 pub(crate) fn show_read(sheet: &[u32], caller: Clinic, slot: SlotNumber) {
     match read(sheet, caller, slot) {
-        Ok(lines) => show(format_args!("  read: {} lines.", lines.len() / LINE_WORDS)),
-        Err(refused) => show(format_args!("  {refused}")),
+        Ok(lines) => show(format_args!("  read: {} lines.\n", lines.len() / LINE_WORDS)),
+        Err(refused) => show(format_args!("  {refused}\n")),
     }
 }
 
@@ -134,7 +134,7 @@ fn show_line(number: usize, line: Line<'_>, measure: u32, markup: &str) {
         measure,
     };
     if base.has_ruby() {
-        show(format_args!("    {}", RubyRow { base, markup }));
+        show(format_args!("    {}\n", RubyRow { base, markup }));
     }
-    show(format_args!("{number:3} {base} {line}"));
+    show(format_args!("{number:3} {base} {line}\n"));
 }

@@ -18,7 +18,7 @@ use terminal::show;
 use texts::{CARE_NOTE, DOSE_NOTE, LONG_WORD, OPEN_NOTE, TEXT_SIZE};
 
 fn set_up_clinics(sheet: &mut [u32]) {
-    show("Clinics 7, 8, 9 get slots 0, 1, 2 of measures 520, 560, 400 and indents 80, 80, 0.");
+    show("Clinics 7, 8, 9 get slots 0, 1, 2 of measures 520, 560, 400 and indents 80, 80, 0.\n");
     set_up(sheet, &[7, 8, 9], &[520, 560, 400], &[80, 80, 0]);
 }
 
@@ -26,33 +26,33 @@ fn set_up_clinics(sheet: &mut [u32]) {
 // character, as digits and letters are, and no line breaks between two of them: lines 1 and 2 end before, and are
 // stretched. Line 3 shrinks the space after its comma.
 fn import_dose_note(sheet: &mut [u32]) {
-    show("\nClinic 7 takes a slot. None is in use before its clinic takes it.");
+    show("\nClinic 7 takes a slot. None is in use before its clinic takes it.\n");
     take(sheet, Clinic(7));
-    show("Clinic 7 imports a dose note into slot 0. A strength keeps its %, a dose its unit.");
+    show("Clinic 7 imports a dose note into slot 0. A strength keeps its %, a dose its unit.\n");
     import(sheet, Clinic(7), SlotNumber(0), DOSE_NOTE);
-    show("Clinic 7 reads slot 0. A column is 40 units; each character stands where its x lies.");
-    show("Beside a line stand its kind and the x of its end.");
+    show("Clinic 7 reads slot 0. A column is 40 units; each character stands where its x lies.\n");
+    show("Beside a line stand its kind and the x of its end.\n");
     show_slot(sheet, Clinic(7), SlotNumber(0), DOSE_NOTE);
 }
 
 // Ruby is half as large as its base. So in line 0 the base is the longer row, in line 2 the ruby, and the base opens
 // under it, and in line 3 a single character stands in the middle under its ruby.
 fn import_care_note(sheet: &mut [u32]) {
-    show("\nClinic 8 takes a slot.");
+    show("\nClinic 8 takes a slot.\n");
     take(sheet, Clinic(8));
-    show("Clinic 8 imports an aftercare note into slot 1.");
+    show("Clinic 8 imports an aftercare note into slot 1.\n");
     import(sheet, Clinic(8), SlotNumber(1), CARE_NOTE);
     show(
-        "Clinic 8 reads slot 1. Ruby starts where its base does; a terminal cannot show it smaller.",
+        "Clinic 8 reads slot 1. Ruby starts where its base does; a terminal cannot show it smaller.\n",
     );
     show_slot(sheet, Clinic(8), SlotNumber(1), CARE_NOTE);
 }
 
 // A text with a fault changes nothing.
 fn try_refused_import(sheet: &mut [u32]) {
-    show("\nClinic 8 imports a text into slot 1 whose rt has no end tag.");
+    show("\nClinic 8 imports a text into slot 1 whose rt has no end tag.\n");
     import(sheet, Clinic(8), SlotNumber(1), OPEN_NOTE);
-    show("Clinic 8 reads slot 1: it is as before.");
+    show("Clinic 8 reads slot 1: it is as before.\n");
     show_read(sheet, Clinic(8), SlotNumber(1));
 }
 
@@ -83,56 +83,56 @@ fn insert_comma(sheet: &mut [u32], class: Class) {
 }
 
 fn try_refused_edits(sheet: &mut [u32]) {
-    show("\nClinic 8 changes the dose in slot 0 to 250.");
+    show("\nClinic 8 changes the dose in slot 0 to 250.\n");
     edit_dose(sheet, Clinic(8));
-    show("Clinic 7 inserts a comma that is as wide as a kanji, before record 27 of slot 0.");
+    show("Clinic 7 inserts a comma that is as wide as a kanji, before record 27 of slot 0.\n");
     insert_comma(sheet, Class::Comma);
-    show("Clinic 7 marks it as a kanji too, so that it could open a line.");
+    show("Clinic 7 marks it as a kanji too, so that it could open a line.\n");
     insert_comma(sheet, Class::Ideographic);
 }
 
 // A read is refused of another clinic's slot, and of one's own before it is taken.
 fn try_reads(sheet: &[u32]) {
-    show("\nClinic 8 reads slot 0.");
+    show("\nClinic 8 reads slot 0.\n");
     show_read(sheet, Clinic(8), SlotNumber(0));
-    show("Clinic 9 reads slot 2, which it has not taken.");
+    show("Clinic 9 reads slot 2, which it has not taken.\n");
     show_read(sheet, Clinic(9), SlotNumber(2));
 }
 
 // The dose stands in line 3, and is as wide as before: lines 2 and 3 are composed anew, and line 4 stands again. It
 // has no ruby, so no markup is told.
 fn change_dose(sheet: &mut [u32]) {
-    show("\nClinic 7 changes the dose in slot 0 to 250: records 17 to 19 make way for three.");
+    show("\nClinic 7 changes the dose in slot 0 to 250: records 17 to 19 make way for three.\n");
     edit_dose(sheet, Clinic(7));
-    show("Clinic 7 reads slot 0.");
+    show("Clinic 7 reads slot 0.\n");
     show_slot(sheet, Clinic(7), SlotNumber(0), "");
 }
 
 // Each clinic takes only slots of its own, so that none can use up another's.
 fn share_slots(sheet: &mut [u32]) {
-    show("\nClinic 7 gives slot 0 back.");
+    show("\nClinic 7 gives slot 0 back.\n");
     give_back(sheet, Clinic(7), SlotNumber(0));
-    show("Clinic 8 takes one more slot. Slots 0 and 2 are free, but not its own.");
+    show("Clinic 8 takes one more slot. Slots 0 and 2 are free, but not its own.\n");
     take(sheet, Clinic(8));
-    show("Clinic 9 takes a slot, and still gets its own.");
+    show("Clinic 9 takes a slot, and still gets its own.\n");
     take(sheet, Clinic(9));
 }
 
 // Before it took the slot its read was refused: a refused read and an empty slot can be told apart.
 fn try_long_word(sheet: &mut [u32]) {
-    show("\nClinic 9 imports a word that is wider than its measure into slot 2.");
+    show("\nClinic 9 imports a word that is wider than its measure into slot 2.\n");
     import(sheet, Clinic(9), SlotNumber(2), LONG_WORD);
-    show("Clinic 9 reads slot 2: it is empty.");
+    show("Clinic 9 reads slot 2: it is empty.\n");
     show_read(sheet, Clinic(9), SlotNumber(2));
 }
 
 // Giving back empties a slot, and then it can be taken again.
 fn take_again(sheet: &mut [u32]) {
-    show("\nClinic 8 gives slot 1 back.");
+    show("\nClinic 8 gives slot 1 back.\n");
     give_back(sheet, Clinic(8), SlotNumber(1));
-    show("Clinic 8 takes a slot again.");
+    show("Clinic 8 takes a slot again.\n");
     take(sheet, Clinic(8));
-    show("Clinic 8 reads slot 1: nothing of the aftercare note is left.");
+    show("Clinic 8 reads slot 1: nothing of the aftercare note is left.\n");
     show_read(sheet, Clinic(8), SlotNumber(1));
 }
 

@@ -17,7 +17,7 @@ impl fmt::Write for Terminal {
     }
 }
 
-/// Shows a line.
+/// Shows a line. It has its end with it, so that its last piece and its end go out at once.
 pub(crate) fn show(line: impl fmt::Display + Drop) {
-    let _ = writeln!(Terminal, "{line}");
+    let _ = write!(Terminal, "{line}");
 }
