@@ -22,12 +22,12 @@ impl fmt::Display for Refused {
         write!(f, "refused with {number}: ")?;
         // a refusal has the same words at every place
         match Refusal::told(number, 0) {
-            Some(refusal) => write!(f, "{refusal}.")?,
-            None if number == NO_LEAFLET => write!(f, "the text is no leaflet from this byte on.")?,
-            None => write!(f, "there is no such number.")?,
+            Some(refusal) => write!(f, "{refusal}")?,
+            None if number == NO_LEAFLET => write!(f, "the text is no leaflet from this byte on")?,
+            None => write!(f, "there is no such number")?,
         }
         match place {
-            Some(place) => write!(f, " Place {place}."),
+            Some(place) => write!(f, ". Place {place}"),
             None => Ok(()),
         }
     }

@@ -17,7 +17,7 @@ pub(crate) fn set_up(sheet: &mut [u32], clinics: &[u32], measures: &[u32], inden
     let answer = sheet::set_up(sheet, clinics, measures, indents);
     match accepted(answer.number, answer.place as usize) {
         Ok(slots) => show(format_args!("  accepted: {slots} slots.\n")),
-        Err(refused) => show(format_args!("  {refused}\n")),
+        Err(refused) => show(format_args!("  {refused}.\n")),
     }
 }
 
@@ -26,7 +26,7 @@ pub(crate) fn take(sheet: &mut [u32], caller: Clinic) {
     let answer = sheet::take(sheet, caller);
     match accepted(answer.number, answer.place as usize) {
         Ok(slot) => show(format_args!("  accepted: slot {slot}.\n")),
-        Err(refused) => show(format_args!("  {refused}\n")),
+        Err(refused) => show(format_args!("  {refused}.\n")),
     }
 }
 
@@ -35,14 +35,14 @@ pub(crate) fn give_back(sheet: &mut [u32], caller: Clinic, slot: SlotNumber) {
     let answer = sheet::give_back(sheet, caller, slot);
     match accepted(answer.number, answer.place as usize) {
         Ok(_) => show("  accepted.\n"),
-        Err(refused) => show(format_args!("  {refused}\n")),
+        Err(refused) => show(format_args!("  {refused}.\n")),
     }
 }
 
 fn show_composed(outcome: Result<Composed, Refused>) {
     match outcome {
         Ok(composed) => show(format_args!("  accepted: {composed}.\n")),
-        Err(refused) => show(format_args!("  {refused}\n")),
+        Err(refused) => show(format_args!("  {refused}.\n")),
     }
 }
 
@@ -96,7 +96,7 @@ fn read(sheet: &[u32], caller: Clinic, slot: SlotNumber) -> Result<&[u32], Refus
 pub(crate) fn show_read(sheet: &[u32], caller: Clinic, slot: SlotNumber) {
     match read(sheet, caller, slot) {
         Ok(lines) => show(format_args!("  read: {} lines.\n", lines.len() / LINE_WORDS)),
-        Err(refused) => show(format_args!("  {refused}\n")),
+        Err(refused) => show(format_args!("  {refused}.\n")),
     }
 }
 

@@ -17,7 +17,7 @@ impl fmt::Write for Terminal {
     }
 }
 
-/// Shows a line. It has its end with it, so that its last piece and its end go out at once.
+/// Shows a line, which has its end with it: words at the end of a line go out at once with it.
 pub(crate) fn show(line: impl fmt::Display + Drop) {
     let _ = write!(Terminal, "{line}");
 }
